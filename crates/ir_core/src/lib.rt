@@ -1,0 +1,28 @@
+//! A module of textual LLVM IR as data: what every other crate reads, changes, prints or gives a meaning to.
+//!
+//! The data follows the LLVM Language Reference for the integer subset that this project reads.
+//! `specs/` says which bytes spell a module, what a module's canonical text is, and which texts are refused.
+#![tactic(auto)]
+
+mod answers;
+mod checked;
+mod copy;
+mod instructions;
+mod module;
+mod name;
+mod refusal;
+mod remark;
+mod types;
+
+pub use answers::{Or, OutOfMemory};
+pub use checked::{Marked, Place};
+pub use copy::Copies;
+pub use instructions::{
+    BinOp, Case, CastOp, Edge, Flags, Inst, Kind, Order, Pred, RmwOp, TailWord, Typed, Value,
+};
+pub use module::{Block, Element, Function, Global, Init, Module, Param, TypeDef};
+pub use name::{FileName, Name};
+pub use refusal::{Construct, Refusal};
+pub use remark::{Mode, Remark};
+pub use sqlite_items::{Boxed, Items as List};
+pub use types::Ty;
