@@ -1,0 +1,6 @@
+pub mod Bytes
+pub mod Tokens
+pub mod Numbers
+pub mod Spell
+pub mod Grammar
+pub mod Refusals
