@@ -1,6 +1,6 @@
 -- The grammar of a module's text, after the LLVM Language Reference: which tokens spell which part.
 use Rattle.std.specs.Prelude.{◌≡◌, ℕ, ◌+◌, ◌-◌, List, [], ◌∷◌, ◌++◌, length, take, drop, codes, ◌⊎◌, true, false, decimal}
-use Rattle.std.specs.Prelude.{Option, Some as Present, None as Absent}
+use Rattle.std.specs.Prelude.{Some as Present, None as Absent}
 use Rattle.ir_core.specs.declared.types.Ty.{Ty}
 use Rattle.ir_core.specs.declared.types.Ty.TheVariants.{Void, Int as IntTy, Ptr}
 use Rattle.ir_core.specs.declared.instructions.Value.{Value}
@@ -21,7 +21,7 @@ use Rattle.ir_core.specs.declared.module.Param.{Param}
 use Rattle.ir_core.specs.declared.module.Block.{Block}
 use Rattle.ir_core.specs.Tokens.{Lexeme, Token, Local, Global, Label, Number, Lexes, lexemes}
 use Rattle.ir_core.specs.Numbers.{is_number_in_range, kept_at}
-use Rattle.ir_core.specs.Spell.{Spell, done, one, ◌>>=◌, any, many, InTable, IsWordIn, IsWord, word, mark, with_line, list_to}
+use Rattle.ir_core.specs.Spell.{Spell, done, one, ◌>>=◌, any, many, IsWordIn, IsWord, word, mark, with_line, list_to}
 
 -- ---- names
 

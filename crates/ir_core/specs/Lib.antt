@@ -4,3 +4,4 @@ pub mod Numbers
 pub mod Spell
 pub mod Grammar
 pub mod Refusals
+pub mod Text
