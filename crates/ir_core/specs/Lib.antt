@@ -5,3 +5,8 @@ pub mod Spell
 pub mod Grammar
 pub mod Refusals
 pub mod Text
+pub mod EntryPoints
+pub mod FirstForm
+pub mod Lines
+pub mod MachineOff
+pub mod Notes

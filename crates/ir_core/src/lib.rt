@@ -15,7 +15,7 @@ mod remark;
 mod types;
 
 pub use answers::{Or, OutOfMemory};
-pub use checked::{Marked, Place};
+pub use checked::{Changed, Checked, Marked, OutModule, Place};
 pub use copy::Copies;
 pub use instructions::{
     BinOp, Case, CastOp, Edge, Flags, Inst, Kind, Order, Pred, RmwOp, TailWord, Typed, Value,
