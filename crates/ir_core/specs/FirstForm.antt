@@ -1,6 +1,6 @@
 -- The modules that the program takes by now: one kernel without a region, and the two entry points that it calls.
 use Rattle.std.specs.Prelude.{◌≡◌, ℕ, ◌+◌, ◌-◌, ◌^◌, ◌≤◌, List, [], ◌∷◌, ◌++◌, length, take, drop, map, codes, Bool, true, false, ◌==◌, ◌&&◌, not, nat_lt, nat_le, if◌then◌else◌, Option, Some, None}
-use Rattle.std.specs.List.{flat_map, list_all}
+use Rattle.std.specs.List.{flat_map, list_all, sum_by}
 use Rattle.std.specs.Str.{bytes_eq}
 use Rattle.ir_core.specs.declared.types.Ty.{Ty}
 use Rattle.ir_core.specs.declared.types.Ty.TheVariants.{Void, Int as IntTy, Ptr}
@@ -249,23 +249,23 @@ block_given b = flat_map inst_given b.insts
 abbrev pub param_given : Param → List ℕ × Ty
 param_given p = (p.name, p.ty)
 
--- the registers and parameters of a function, with their types
+-- a block's name is no operand, which the type void says
+abbrev pub label_given : Block → List ℕ × Ty
+label_given b = (b.name, Void)
+
+-- the parameters, results and blocks of a function, with their types
 abbrev pub given : Function → List (List ℕ × Ty)
-given f = map param_given f.params ++ flat_map block_given f.blocks
+given f = map param_given f.params ++ flat_map block_given f.blocks ++ map label_given f.blocks
 
 abbrev pub name_of : List ℕ × Ty → List ℕ
 name_of p = p.0
 
-abbrev pub block_name : Block → List ℕ
-block_name b = b.name
-
--- parameters, results and blocks together
 abbrev pub local_names : Function → List (List ℕ)
-local_names f = map name_of (given f) ++ map block_name f.blocks
+local_names f = map name_of (given f)
 
 abbrev pub holds : List (List ℕ) → List ℕ → Bool
 holds [] x = false
-holds (y ∷ ys) x = if bytes_eq y x then true else holds ys x
+holds (y ∷ ys) x = if bytes_eq x y then true else holds ys x
 
 -- each name is given once
 abbrev pub all_apart : List (List ℕ) → Bool
@@ -275,49 +275,58 @@ all_apart (x ∷ xs) = not (holds xs x) && all_apart xs
 -- the type with which a name is given
 abbrev pub type_in : List (List ℕ × Ty) → List ℕ → Option Ty
 type_in [] x = None
-type_in (p ∷ ps) x = if bytes_eq p.0 x then Some p.1 else type_in ps x
+type_in (p ∷ ps) x = if bytes_eq x p.0 then Some p.1 else type_in ps x
 
 abbrev pub is_type : Ty → Option Ty → Bool
 is_type ty None = false
 is_type ty (Some other) = same_scalar other ty
 
+-- whether a name is given with a type
+abbrev pub is_given : List (List ℕ × Ty) → Ty → List ℕ → Bool
+is_given names ty x = is_type ty (type_in names x)
+
 abbrev pub is_number_of : ℕ → Ty → Bool
 is_number_of n (IntTy width) = nat_lt n (2 ^ width)
 is_number_of n _ = false
 
--- an operand that is of its type
-abbrev pub is_value_of : List (List ℕ × Ty) → Ty → Value → Bool
-is_value_of names ty (IntValue n) = is_number_of n ty
-is_value_of names ty Null = is_ptr ty
-is_value_of names ty (Register x) = is_type ty (type_in names x)
-is_value_of names ty (GlobalValue x) = false
+-- an operand that is of its type, where this tells the types of names; a function's name is none
+abbrev pub is_value_of : (Ty → List ℕ → Bool) → Ty → Value → Bool
+is_value_of has ty (IntValue n) = is_number_of n ty
+is_value_of has ty Null = is_ptr ty
+is_value_of has ty (Register x) = has ty x
+is_value_of has ty (GlobalValue x) = false
 
--- the pointer of an access: a register, a parameter or null
-abbrev pub uses_well_typed : List (List ℕ × Ty) → Kind → Bool
-uses_well_typed names (Bin op flags ty a b) = is_value_of names ty a && is_value_of names ty b
-uses_well_typed names (Load ty at order align) = is_value_of names at.ty at.value
-uses_well_typed names (Store value at order align) = is_value_of names value.ty value.value && is_value_of names at.ty at.value
-uses_well_typed names _ = true
+abbrev pub is_well_typed : (Ty → List ℕ → Bool) → Typed → Bool
+is_well_typed has v = is_value_of has v.ty v.value
 
-abbrev pub inst_well_typed : List (List ℕ × Ty) → Inst → Bool
-inst_well_typed names i = uses_well_typed names i.kind
+-- the operands of the user code
+abbrev pub uses_well_typed : (Ty → List ℕ → Bool) → Kind → Bool
+uses_well_typed has (Bin op flags ty a b) = is_value_of has ty a && is_value_of has ty b
+uses_well_typed has (Load ty at order align) = is_well_typed has at
+uses_well_typed has (Store value at order align) = is_well_typed has value && is_well_typed has at
+uses_well_typed has _ = true
 
-abbrev pub block_well_typed : List (List ℕ × Ty) → Block → Bool
-block_well_typed names b = list_all (inst_well_typed names) b.insts
+abbrev pub inst_well_typed : (Ty → List ℕ → Bool) → Inst → Bool
+inst_well_typed has i = uses_well_typed has i.kind
+
+abbrev pub block_well_typed : (Ty → List ℕ → Bool) → Block → Bool
+block_well_typed has b = list_all (inst_well_typed has) b.insts
 
 abbrev pub has_good_names : Function → Bool
 has_good_names f = is_word f.name && list_all is_word (local_names f) && all_apart (local_names f)
 
+abbrev pub block_length : Block → ℕ
+block_length b = length b.insts
+
 abbrev pub instruction_count : List Block → ℕ
-instruction_count [] = 0
-instruction_count (b ∷ bs) = length b.insts + instruction_count bs
+instruction_count = sum_by block_length
 
 unfoldable pub instruction_limit : ℕ
 instruction_limit = 200000
 
 -- what a kernel's names and operands keep
 abbrev pub is_well_formed : Function → Bool
-is_well_formed f = has_good_names f && list_all (block_well_typed (given f)) f.blocks && nat_le (instruction_count f.blocks) instruction_limit
+is_well_formed f = has_good_names f && list_all (block_well_typed (is_given (given f))) f.blocks && nat_le (instruction_count f.blocks) instruction_limit
 
 -- ---- modules
 

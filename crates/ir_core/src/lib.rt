@@ -13,6 +13,7 @@ mod name;
 mod refusal;
 mod remark;
 mod types;
+mod words;
 
 pub use answers::{Or, OutOfMemory};
 pub use checked::{Changed, Checked, Marked, OutModule, Place};
@@ -26,3 +27,4 @@ pub use refusal::{Construct, Refusal};
 pub use remark::{Mode, Remark};
 pub use sqlite_items::{Boxed, Items as List};
 pub use types::Ty;
+pub use words::is_word;

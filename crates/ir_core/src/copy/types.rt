@@ -40,4 +40,3 @@ impl Copies for Ty {
         copy_ty(alloc, self)
     }
 }
-

@@ -1,0 +1,3 @@
+pub mod Apart
+pub mod Tables
+pub mod Given

@@ -1,0 +1,120 @@
+//! The check of a whole module.
+ghost use Rattle.std.specs.Prelude.{◌≡◌, IfOk, IfErr, nat_le, true};
+ghost use Rattle.std.specs.List.{list_all};
+ghost use Rattle.ir_core.specs.FirstForm.{is_first_form, are_functions, only_functions, is_well_formed, has_good_names, instruction_count, instruction_limit, local_names, HasFirstForm};
+ghost use Rattle.ir_core.specs.Text.{is_word};
+ghost use Rattle.ir_check.specs.Names.{entries_of, names_seen, key_of, is_typed, has_good_code, Entry};
+ghost use Rattle.ir_check.specs.Refusal.{IsCheckRefusal};
+
+use crate::kernel::{declares_deinit, declares_init, is_kernel};
+use crate::names::{Given, given_in, table_of};
+use crate::typing::blocks_well_typed;
+use ir_core::{Block, Checked, Construct, Function, Module, Or, OutOfMemory, Refusal, is_word};
+use std::alloc::Global;
+
+const INSTRUCTION_LIMIT: usize = 200_000;
+
+fn are_words(given: &[Given]) -> bool
+    ensures { result ≡ list_all (λ (p : Entry). is_word p.0) (names_seen given.now) }
+{
+    for (name, _) in given {
+        if !is_word(*name) {
+            return false;
+        }
+    }
+    true
+}
+
+// Whether there are few enough instructions.
+fn are_few(blocks: &[Block]) -> bool
+    ensures { result ≡ nat_le (instruction_count blocks.now) instruction_limit }
+{
+    let mut room = INSTRUCTION_LIMIT;
+    for block in blocks {
+        match room.checked_sub(block.insts.len()) {
+            None => return false,
+            Some(rest) => room = rest,
+        }
+    }
+    true
+}
+
+// Whether each name is given once, and each operand is of its type.
+fn is_typed(alloc: Global, given: &[Given], blocks: &[Block]) -> Result<bool, OutOfMemory>
+    ensures { IfOk result (λ b. b ≡ is_typed (names_seen given.now) blocks.now) }
+{
+    match table_of(alloc, given)? {
+        None => Ok(false),
+        Some(names) => Ok(blocks_well_typed(&names, blocks)),
+    }
+}
+
+// Whether the names are words, each name is given once, and each operand is of its type.
+fn has_good_code(alloc: Global, f: &Function) -> Result<bool, OutOfMemory>
+    ensures { IfOk result (λ b. b ≡ has_good_code f.now) }
+{
+    let given = given_in(alloc, f)?;
+    if are_words(given.as_slice()) {
+        is_typed(alloc, given.as_slice(), f.blocks.as_slice())
+    } else {
+        Ok(false)
+    }
+}
+
+fn is_well_formed(alloc: Global, f: &Function) -> Result<bool, OutOfMemory>
+    ensures { IfOk result (λ b. b ≡ is_well_formed f.now) }
+{
+    if is_word(f.name.as_slice()) && are_few(f.blocks.as_slice()) {
+        has_good_code(alloc, f)
+    } else {
+        Ok(false)
+    }
+}
+
+fn only_functions(m: &Module) -> bool
+    ensures { result ≡ only_functions m.now }
+{
+    m.prelude.is_empty() && m.types.is_empty() && m.globals.is_empty() && m.tail.is_empty()
+}
+
+fn are_functions(alloc: Global, functions: &[Function]) -> Result<bool, OutOfMemory>
+    ensures { IfOk result (λ b. b ≡ are_functions true functions.now) }
+{
+    match functions {
+        [kernel, init, deinit] => {
+            if is_kernel(kernel) && declares_init(init) && declares_deinit(deinit) {
+                is_well_formed(alloc, kernel)
+            } else {
+                Ok(false)
+            }
+        }
+        _ => Ok(false),
+    }
+}
+
+fn has_first_form(alloc: Global, m: &Module) -> Result<bool, OutOfMemory>
+    ensures { IfOk result (λ b. b ≡ is_first_form true m.now) }
+{
+    if only_functions(m) {
+        are_functions(alloc, m.functions.as_slice())
+    } else {
+        Ok(false)
+    }
+}
+
+/// The module, known to have no refusal. By now every module that hasn't the first form is refused
+/// as not built, at line 1; the module is then given up.
+pub fn check(alloc: Global, m: Module) -> Result<Checked, Or<Refusal>>
+    ensures same { IfOk result (λ c. c ≡ m) }
+    ensures passed { IfOk result (λ c. HasFirstForm m) }
+    ensures refused { IfErr result (λ e. IsCheckRefusal m e) }
+{
+    if has_first_form(alloc, &m)? {
+        Ok(Checked::seal(m))
+    } else {
+        Err(Or::Refused(Refusal {
+            construct: Construct::NotBuilt,
+            line: 1,
+        }))
+    }
+}
