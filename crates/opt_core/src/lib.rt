@@ -4,6 +4,8 @@
 mod memory;
 mod outside;
 mod real;
+#[cfg(test)]
+mod real_tests;
 mod transfer;
 
 pub use memory::{NamedFile, SureInputs, SureSink};
