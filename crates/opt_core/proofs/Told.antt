@@ -1,10 +1,11 @@
 -- Files in memory that have bytes tell what they hold.
-use Rattle.std.proofs.Common.{◌≡◌, ℕ, zero, suc, ◌+◌, ◌<◌, List, [], ◌∷◌, length, Bool, true, false, cond, Option, Some, None, IsSome, is_some, Contains, refl, sym, ◌∙◌, arith, lit<}
+use Rattle.std.proofs.Common.{◌≡◌, ℕ, zero, suc, ◌≤◌, List, [], ◌∷◌, length, Bool, true, false, cond, Option, Some, None, IsSome, is_some, Contains, refl, rules, arith}
 use Rattle.std.specs.Option.{option_and_then}
 use Rattle.std.specs.Str.{bytes_eq}
 use Rattle.std.proofs.lemmas.Slice.Eq.{bytes_eq-Decides}
 use Rattle.opt_core.specs.declared.memory.NamedFile.{NamedFile}
-use Rattle.opt_core.specs.Files.{HaveBytes, content_of, file_of, names_of}
+use Rattle.std.specs.List.{IsDistinct}
+use Rattle.opt_core.specs.Files.{HaveBytes, HaveDistinctNames, content_of, file_of, names_of}
 
 by_first : (is_first : Bool) (file : NamedFile) (later : Option NamedFile) → (is_first ≡ true → IsSome file.bytes) → (is_first ≡ false → IsSome (option_and_then (λ f. f.bytes) later)) → IsSome (option_and_then (λ f. f.bytes) (cond is_first (Some file) later))
 by_first true file later here there = here refl
@@ -20,3 +21,10 @@ told (file ∷ files) name all (suc k, low, is) =
 
 pub not_untold : (files : List NamedFile) (name : List ℕ) → HaveBytes files → Contains (names_of files) name → content_of files name ≡ None → ⊥
 not_untold files name all has untold = let some : is_some (content_of files name) ≡ true = told files name all has in cc
+
+-- the name of one file alone is distinct
+pub one_is_distinct : (files : List NamedFile) → length files ≤ 1 → HaveDistinctNames files
+unfolding IsDistinct
+one_is_distinct [] one = tt
+one_is_distinct (file ∷ []) one = search rules
+one_is_distinct (file ∷ other ∷ files) one = let f : ⊥ = omega arith in absurd f

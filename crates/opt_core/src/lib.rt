@@ -2,6 +2,8 @@
 #![tactic(auto)]
 
 mod memory;
+#[cfg(test)]
+mod memory_tests;
 mod outside;
 mod real;
 #[cfg(test)]

@@ -1,6 +1,5 @@
-use Rattle.std.proofs.Common.{◌+◌, arith, drop, length-drop, length-take, take}
+use Rattle.std.proofs.Common.{arith, length-drop, length-take}
 use Rattle.opt_core.proofs.Bytes.{grows_by_slice}
-use Rattle.opt_core.specs.Outside.{Grows}
 use Rattle.opt_core.proofs.transfer.write_all.Goals as goal
 
 pub loop-written-preserved : goal.loop-written-preserved

@@ -1,4 +1,4 @@
-use Rattle.std.proofs.Common.{◌≡◌, Contains, subst, sym, ◌∙◌, ap}
+use Rattle.std.proofs.Common.{Contains, subst, sym, ◌∙◌, ap}
 use Rattle.std.specs.Option.{option_copied}
 use Rattle.opt_core.specs.Files.{content_of, names_of}
 use Rattle.opt_core.proofs.Told.{not_untold}
