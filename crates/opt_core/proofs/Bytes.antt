@@ -17,6 +17,7 @@ grows_by_slice a b c xs at n le g h =
     let whole : take (length xs - at) (drop at xs) ≡ drop at xs = take_all (length xs - at) (drop at xs) (omega (arith, length-drop at xs)) in
     grows_more a b c xs at n g (subst (λ ys. Grows b c (take n ys)) whole h)
 
+-- the limit as a number
 pub limit_is : read_limit ≡ 4194305
 unfolding read_limit
 limit_is = refl
@@ -25,6 +26,7 @@ limit_is = refl
 abbrev pub with_part : ℕ → List ℕ → List ℕ → List ℕ → List ℕ → List ℕ
 with_part len front part behind rest = take len (front ++ (part ++ behind) ++ rest)
 
+-- its front, and the first bytes of the part
 pub front_after : (len : ℕ) (front part behind rest : List ℕ) (count : ℕ) → length front + length part ≤ len → count ≤ length part → take (length front + count) (with_part len front part behind rest) ≡ front ++ take count part
 front_after len front part behind rest count room within =
     take-take (length front + count) len (front ++ (part ++ behind) ++ rest) (omega arith)
@@ -49,10 +51,6 @@ reads_more (Some content) at filled count len before bytes part behind rest here
           ∙ sym (take-add filled count content),
       λ none. given.1 none some,
     )
-
-pub more_front : (before told : Option (List ℕ)) (filled count : ℕ) (bytes after : List ℕ) → before ≡ told → ReadsMore before bytes filled after count → IfSome told (λ content. take filled bytes ≡ take filled content) → IfSome told (λ content. take (filled + count) after ≡ take (filled + count) content)
-more_front before None filled count bytes after same more front = tt
-more_front before (Some content) filled count bytes after same more front = ((subst (λ o. ReadsMore o bytes filled after count) same more) front).0
 
 -- the bytes are the whole limit
 pub at_limit : (told : Option (List ℕ)) (filled : ℕ) (bytes : List ℕ) → filled ≡ 4194305 → IfSome told (λ content. take filled bytes ≡ take filled content) → IfSome told (λ content. take filled bytes ≡ take read_limit content)

@@ -8,10 +8,12 @@ use crate::outside::{InputFailed, Inputs, Sink, SinkFailed};
 use ir_core::{FileName, List};
 use std::marker::Model;
 
-/// A file by its name, with what it holds, or nothing where the file is missing.
+/// A file that is kept in memory.
 #[derive(Debug, Drop)]
 pub struct NamedFile {
+    /// The name that it is read by.
     pub name: FileName,
+    /// What it holds, or nothing where it is missing.
     pub bytes: Option<List<u8>>,
 }
 

@@ -9,8 +9,10 @@ use thiserror::Error;
 /// Why a file was not read: its input failed, or there was not enough memory.
 #[derive(Debug, Drop, Error)]
 pub enum ReadFault {
+    /// The input failed. It comes only where the name's count of faults rose.
     #[error("an input failed")]
     Failed,
+    /// There was not enough memory for the bytes.
     #[error("out of memory")]
     Memory,
 }
