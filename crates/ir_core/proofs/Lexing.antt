@@ -1,10 +1,10 @@
 -- The piece that `piece_at` gives is the one that stands at the front of a text.
-use Rattle.std.proofs.Common.{◌≡◌, ℕ, zero, suc, ◌+◌, ◌-◌, ◌≤◌, ◌<◌, List, [], ◌∷◌, ◌++◌, length, take, drop, Option, Some, None, Bool, true, false, cond, refl, sym, ap, ◌∙◌, subst, inl, inr, ◌⊎◌, arith, append_assoc, length-append, length-drop, get_or, ◌==◌, nat_lt, take-add}
-use Rattle.std.proofs.lemmas.List.{append-nil, drop-drop, take-append-drop, length-take-le}
+use Rattle.std.proofs.Common.{◌≡◌, ℕ, zero, suc, ◌+◌, ◌-◌, ◌≤◌, ◌<◌, List, [], ◌∷◌, ◌++◌, length, take, drop, Option, Some, None, Bool, true, false, cond, refl, sym, ap, ◌∙◌, subst, inl, inr, ◌⊎◌, arith, append_assoc, length-append, length-drop, get_or, ◌==◌, nat_lt, take-add, drop-cons}
+use Rattle.std.proofs.lemmas.List.{append-nil, drop-drop, take-append-drop, length-take-le, drop_all}
 use Rattle.std.proofs.lemmas.Bool.{eqb-true, eq-eqb, ltb-true, lt-ltb}
 use Rattle.ir_core.specs.Bytes.{Class, Blank, Semicolon, Bracket, Digit, Dash, Letter, Percent, AtSign, Colon, Other, class_of, is_word_class, is_digit_class, word_byte, digit_byte, no_line_end, every}
 use Rattle.ir_core.specs.Tokens.{TokenKind, Word, Local, Global, Label, Number, Mark, Bad, Past, Token, Led, Nothing, Each, IsDigits, IsNumber, IsWord, IsWordOrDigits, Is, Piece, IsLongest, BeginsNone, IsBad, Pieces, line_ends, line_at, kept, tokens_from, is_bad_kind, has_bad}
-use Rattle.ir_core.specs.Scan.{run, class_at, piece, bad_piece, is_number_tail, stem_size, name_size, by_colon, by_name, word_piece, digits_piece, by_tail, by_class, piece_at, is_gap, Reads}
+use Rattle.ir_core.specs.Scan.{run, class_at, piece, bad_piece, is_number_tail, stem_size, name_size, by_colon, by_name, word_piece, digits_piece, by_tail, by_class, piece_at, is_gap, Reads, ReadsAll}
 
 -- ---- runs of bytes
 
@@ -644,10 +644,6 @@ reads_then text a b c ts us r s = record {
 pub reads_piece : (text : List ℕ) (at : ℕ) (p : Piece) → IsLongest (drop at text) p.kind p.size → Reads text at (at + p.size) (kept text p.kind at (at + p.size))
 reads_piece text at p a = record { goes_on = λ ps k. (p ∷ ps, inl (a, subst (λ t. Pieces t ps) (sym (drop-drop p.size at text)) k), refl) }
 
--- tokens that make up the text
-abbrev pub ReadsAll : List ℕ → List Token → Type 0
-ReadsAll text ts = (ps : List Piece) × Pieces text ps × (ts ≡ tokens_from text 0 ps)
-
 pub reads_all : (text : List ℕ) (at : ℕ) (ts : List Token) → Reads text 0 at ts → length text ≤ at → ReadsAll text ts
 reads_all text at ts r l =
     let d : length (drop at text) ≡ length text - at = length-drop at text in
@@ -665,3 +661,145 @@ reads_to_bad text at ts r b =
 
 pub same_reads : (text : List ℕ) (ts us : List Token) → ReadsAll text ts → ReadsAll text us → ts ≡ us
 same_reads text ts us a b = a.2 ∙ ap (tokens_from text 0) (same_pieces text a.0 b.0 a.1 b.1) ∙ sym b.2
+
+-- ---- one piece on, from a place in the text
+
+pub class_past : (n : ℕ) (text : List ℕ) → length text ≤ n → class_at (drop n text) ≡ Other
+class_past zero [] l = refl
+class_past (suc n) [] l = refl
+class_past zero (c ∷ cs) l = absurd (omega arith)
+class_past (suc n) (c ∷ cs) l = class_past n cs (omega arith)
+
+pub class_inside : (text : List ℕ) (at : ℕ) (a : Class) → class_at (drop at text) ≡ a → (a ≡ Other → ⊥) → at < length text
+class_inside text at a e n =
+    let f : length text ≤ at → ⊥ = λ l. n (sym e ∙ class_past at text l) in
+    omega arith
+
+not_bad : (xs : List ℕ) (p : Piece) → 0 < length xs → p ≡ piece_at xs → (p.kind ≡ Some Bad → ⊥) → IsLongest xs p.kind p.size
+not_bad xs p l e n = by (subst (Found xs) (sym e) (found_at xs l))
+  where
+    by : Found xs p → IsLongest xs p.kind p.size
+    by (inl a) = a
+    by (inr b) = absurd (n (ap (λ (q : Piece). q.kind) b.0))
+
+-- what scanning finds at a place is read there
+pub reads_here : (text : List ℕ) (at : ℕ) (p : Piece) → at < length text → p ≡ piece_at (drop at text) → (p.kind ≡ Some Bad → ⊥) → Reads text at (at + p.size) (kept text p.kind at (at + p.size))
+reads_here text at p l e n =
+    let d : length (drop at text) ≡ length text - at = length-drop at text in
+    reads_piece text at p (not_bad (drop at text) p (omega arith) e n)
+
+pub bad_here : (text : List ℕ) (at : ℕ) (p : Piece) → at < length text → p ≡ piece_at (drop at text) → p.kind ≡ Some Bad → (p ≡ bad_piece) × IsBad (drop at text) bad_piece []
+bad_here text at p l e n =
+    let d : length (drop at text) ≡ length text - at = length-drop at text in
+    by (subst (Found (drop at text)) (sym e) (found_at (drop at text) (omega arith)))
+  where
+    by : Found (drop at text) p → (p ≡ bad_piece) × IsBad (drop at text) bad_piece []
+    by (inl a) = absurd (subst (λ k. Is k (take p.size (drop at text))) n a.is)
+    by (inr b) = (b.0, (refl, refl, b.1, b.2))
+
+pub size_fits_at : (text : List ℕ) (at : ℕ) (p : Piece) → at < length text → p ≡ piece_at (drop at text) → (0 < p.size) × (at + p.size ≤ length text)
+size_fits_at text at p l e =
+    let d : length (drop at text) ≡ length text - at = length-drop at text in
+    let z = ap (λ (q : Piece). q.size) e in
+    let s = size_some (drop at text) (omega arith) in
+    let f = size_fits (drop at text) (omega arith) in
+    (omega arith, omega arith)
+
+-- the line does not change over a token
+pub token_line : (text : List ℕ) (at : ℕ) (kind : TokenKind) (n : ℕ) → at < length text → piece (Some kind) n ≡ piece_at (drop at text) → (kind ≡ Bad → ⊥) → line_at text (at + n) ≡ line_at text at
+token_line text at kind n l e b =
+    let d : length (drop at text) ≡ length text - at = length-drop at text in
+    let a = not_bad (drop at text) (piece (Some kind) n) (omega arith) e (λ f. b (cc)) in
+    let z = no_end_none (take n (drop at text)) (token_no_end kind (take n (drop at text)) a.is) in
+    let m = line_moves text at n in
+    omega arith
+
+at_class : (xs : List ℕ) (a : Class) → class_at xs ≡ a → (a ≡ Other → ⊥) → (c : ℕ) × (cs : List ℕ) × (xs ≡ c ∷ cs) × (class_of c ≡ a)
+at_class [] a e n = absurd (n (sym e))
+at_class (c ∷ cs) a e n = (c, cs, refl, e)
+
+-- a blank
+pub blank_reads : (text : List ℕ) (at : ℕ) → class_at (drop at text) ≡ Blank → Reads text at (at + 1) []
+blank_reads text at e =
+    let h = at_class (drop at text) Blank e (λ f. cc) in
+    let p : piece None 1 ≡ piece_at (drop at text) = sym (ap piece_at h.2 ∙ ap (λ a. by_class a h.0 h.1) h.3) in
+    reads_here text at (piece None 1) (class_inside text at Blank e (λ f. cc)) p (λ f. cc)
+
+pub blank_line : (text : List ℕ) (at c : ℕ) → at < length text → get_or text at 0 ≡ c → line_at text (at + 1) ≡ cond (c == 10) (line_at text at + 1) (line_at text at)
+blank_line text at c l e =
+    let m = line_moves text at 1 in
+    let h = ap (λ (xs : List ℕ). line_ends (take 1 xs)) (drop-cons text at 0 l) in
+    let k : line_ends (take 1 (drop at text)) ≡ cond (c == 10) (0 + 1) 0 = h ∙ ap (λ x. cond (x == 10) (0 + 1) 0) e in
+    by (c == 10) (line_ends (take 1 (drop at text))) k m
+  where
+    by : (b : Bool) (n : ℕ) → n ≡ cond b (0 + 1) 0 → line_at text (at + 1) ≡ line_at text at + n → line_at text (at + 1) ≡ cond b (line_at text at + 1) (line_at text at)
+    by true n k m = omega arith
+    by false n k m = omega arith
+
+-- a comment, which runs to the end of its line
+pub comment_reads : (text : List ℕ) (at : ℕ) → class_at (drop at text) ≡ Semicolon → Reads text at (at + run no_line_end (drop at text)) []
+comment_reads text at e =
+    let h = at_class (drop at text) Semicolon e (λ f. cc) in
+    let r : run no_line_end (drop at text) ≡ run no_line_end h.1 + 1 = ap (run no_line_end) h.2 ∙ run_in no_line_end h.0 h.1 (class_no_end Semicolon h.0 h.3 (λ f. cc)) ∙ (let z : suc (run no_line_end h.1) ≡ run no_line_end h.1 + 1 = omega arith in z) in
+    let p : piece None (run no_line_end (drop at text)) ≡ piece_at (drop at text) = ap (piece None) r ∙ sym (ap piece_at h.2 ∙ ap (λ a. by_class a h.0 h.1) h.3) in
+    reads_here text at (piece None (run no_line_end (drop at text))) (class_inside text at Semicolon e (λ f. cc)) p (λ f. cc)
+
+pub comment_some : (text : List ℕ) (at : ℕ) → class_at (drop at text) ≡ Semicolon → 0 < run no_line_end (drop at text)
+comment_some text at e =
+    let h = at_class (drop at text) Semicolon e (λ f. cc) in
+    let r = ap (run no_line_end) h.2 ∙ run_in no_line_end h.0 h.1 (class_no_end Semicolon h.0 h.3 (λ f. cc)) in
+    omega arith
+
+pub comment_line : (text : List ℕ) (at : ℕ) → line_at text (at + run no_line_end (drop at text)) ≡ line_at text at
+comment_line text at =
+    let z = no_end_none (take (run no_line_end (drop at text)) (drop at text)) (run_every no_line_end (drop at text)) in
+    let m = line_moves text at (run no_line_end (drop at text)) in
+    omega arith
+
+pub run_inside : (p : ℕ → Bool) (text : List ℕ) (at : ℕ) → at ≤ length text → at + run p (drop at text) ≤ length text
+run_inside p text at l =
+    let d : length (drop at text) ≡ length text - at = length-drop at text in
+    let f = run_fits p (drop at text) in
+    omega arith
+
+-- the line of a place is at most one more than the place
+pub line_small : (text : List ℕ) (at : ℕ) → at ≤ length text → line_at text at ≤ at + 1
+line_small text at l =
+    let f = line_ends_fit (take at text) in
+    let t = length-take-le at text l in
+    omega arith
+
+-- ---- a run, byte by byte
+
+pub run_more : (p : ℕ → Bool) (n : ℕ) (text : List ℕ) → n < length text → p (get_or text n 0) ≡ true → run p (drop n text) ≡ 1 + run p (drop (n + 1) text)
+run_more p n text l e =
+    let s : suc n ≡ n + 1 = omega arith in
+    ap (run p) (drop-cons text n 0 l) ∙ run_in p (get_or text n 0) (drop (suc n) text) e ∙ (let z : suc (run p (drop (suc n) text)) ≡ 1 + run p (drop (suc n) text) = omega arith in z) ∙ ap (λ m. 1 + run p (drop m text)) s
+
+pub run_done : (p : ℕ → Bool) (n : ℕ) (text : List ℕ) → n < length text → p (get_or text n 0) ≡ false → run p (drop n text) ≡ 0
+run_done p n text l e = ap (run p) (drop-cons text n 0 l) ∙ run_out p (get_or text n 0) (drop (suc n) text) e
+
+pub run_past : (p : ℕ → Bool) (n : ℕ) (text : List ℕ) → length text ≤ n → run p (drop n text) ≡ 0
+run_past p n text l = ap (run p) (drop_all n text l)
+
+pub run_whole : (p : ℕ → Bool) (text : List ℕ) → ((k : ℕ) → k < length text → p (get_or text k 0) ≡ true) → run p text ≡ length text
+run_whole p [] h = refl
+run_whole p (c ∷ cs) h = run_in p c cs (h 0 (omega arith)) ∙ ap suc (run_whole p cs (λ k l. h (suc k) (omega arith)))
+
+pub run_up_to : (p : ℕ → Bool) (n : ℕ) (text : List ℕ) → n < length text → ((k : ℕ) → k < n → p (get_or text k 0) ≡ true) → p (get_or text n 0) ≡ false → run p text ≡ n
+run_up_to p n [] l h e = absurd (omega arith)
+run_up_to p zero (c ∷ cs) l h e = run_out p c cs e
+run_up_to p (suc n) (c ∷ cs) l h e = run_in p c cs (h 0 (omega arith)) ∙ ap suc (run_up_to p n cs (omega arith) (λ k m. h (suc k) (omega arith)) e)
+
+pub class_here : (n : ℕ) (text : List ℕ) → n < length text → class_at (drop n text) ≡ class_of (get_or text n 0)
+class_here n text l = ap class_at (drop-cons text n 0 l)
+
+-- ---- lists of tokens with a bad one
+
+has_bad_by : (t : Token) (ts us : List Token) → has_bad (t ∷ ts) ≡ false → (has_bad ts ≡ false → has_bad (ts ++ us) ≡ has_bad us) → (b : Bool) → is_bad_kind t.kind ≡ b → has_bad (t ∷ (ts ++ us)) ≡ has_bad us
+has_bad_by t ts us h k true e = let f : true ≡ false = sym (ap (λ (b : Bool). cond b true (has_bad ts)) e) ∙ h in absurd (cc)
+has_bad_by t ts us h k false e = ap (λ (b : Bool). cond b true (has_bad (ts ++ us))) e ∙ k (sym (ap (λ (b : Bool). cond b true (has_bad ts)) e) ∙ h)
+
+pub has_bad-append : (ts us : List Token) → has_bad ts ≡ false → has_bad (ts ++ us) ≡ has_bad us
+has_bad-append [] us h = refl
+has_bad-append (t ∷ ts) us h = has_bad_by t ts us h (has_bad-append ts us) (is_bad_kind t.kind) refl

@@ -80,3 +80,7 @@ is_gap _ = false
 -- from one place of the text to another there are pieces, and these are their tokens: whatever pieces make up the rest, together they make up the text from the first place on
 pub record Reads (text : List ℕ) (at end : ℕ) (ts : List Token) : Type 0 where
   pub goes_on : (ps : List Piece) → Pieces (drop end text) ps → (qs : List Piece) × Pieces (drop at text) qs × (ts ++ tokens_from text end ps ≡ tokens_from text at qs)
+
+-- pieces make up the text, and these are their tokens
+abbrev pub ReadsAll : List ℕ → List Token → Type 0
+ReadsAll text ts = (ps : List Piece) × Pieces text ps × (ts ≡ tokens_from text 0 ps)
