@@ -1,4 +1,4 @@
 pub mod Lines
 pub mod Places
 pub mod Steps
-pub mod Limit
+pub mod Whole

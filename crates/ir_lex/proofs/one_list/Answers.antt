@@ -1,4 +1,4 @@
-use Rattle.ir_lex.proofs.Limit.{one_lexing}
+use Rattle.ir_lex.proofs.Whole.{one_lexing}
 use Rattle.ir_lex.proofs.one_list.Goals as goal
 
 pub returns : goal.returns
