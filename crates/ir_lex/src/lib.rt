@@ -6,6 +6,8 @@ mod gaps;
 mod limit;
 mod read;
 mod scan;
+#[cfg(test)]
+mod tests;
 mod token;
 
 pub use token::{Token, TokenKind};
