@@ -1,0 +1,12 @@
+use Rattle.std.proofs.Common.{ap, ◌∙◌, ◌≡◌, drop}
+use Rattle.std.proofs.lemmas.List.{take_rest}
+use Rattle.ir_core.specs.Scan.{piece_at}
+use Rattle.ir_core.proofs.Lexing.{size_fits_at}
+use Rattle.ir_lex.specs.Scanned.{piece_seen}
+use Rattle.ir_lex.proofs.scan.token_at.Goals as goal
+
+pub returns-clause-some : goal.returns-clause-some
+returns-clause-some c = (size_fits_at c.args.text.now c.args.at (piece_seen c.token_piece.result) c.requires.inside (c.token_piece.ensures ∙ ap piece_at (take_rest c.args.text.now c.args.at))).0
+
+pub returns-clause-within : goal.returns-clause-within
+returns-clause-within c = (size_fits_at c.args.text.now c.args.at (piece_seen c.token_piece.result) c.requires.inside (c.token_piece.ensures ∙ ap piece_at (take_rest c.args.text.now c.args.at))).1
