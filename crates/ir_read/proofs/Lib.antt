@@ -1,0 +1,4 @@
+pub mod Readers
+pub mod Many
+pub mod Whole
+pub mod Tests

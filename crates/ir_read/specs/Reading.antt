@@ -1,0 +1,1 @@
+-- Reading the parts of a module from left to right, in the same steps as the grammar.

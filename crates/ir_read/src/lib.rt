@@ -1,0 +1,5 @@
+//! Reads a module's text.
+#![tactic(auto)]
+
+mod ahead;
+mod tokens;
