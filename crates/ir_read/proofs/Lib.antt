@@ -2,3 +2,6 @@ pub mod Readers
 pub mod Many
 pub mod Whole
 pub mod Tests
+pub mod Lists
+pub mod Operands
+pub mod Laws

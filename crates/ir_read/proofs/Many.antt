@@ -6,7 +6,7 @@ use Rattle.ir_core.specs.declared.answers.Or.TheVariants.{Refused, Memory}
 use Rattle.ir_core.specs.Tokens.{Lexeme}
 use Rattle.ir_core.specs.Spell.{SameNext, many}
 use Rattle.ir_core.specs.Spell as G
-use Rattle.ir_read.specs.Read.{Read, then_read, ◌>>=◌, head, turn, turns, many_at, Shrinks, Fails}
+use Rattle.ir_read.specs.Read.{Read, then_read, ◌>>=◌, head, turn, turns, many_at, put_all, Shrinks, Fails}
 use Rattle.ir_read.proofs.Readers.{Taken, Halted, Reads, Free, same_front, same_head, ok_parts, ok_not_err, err_is, Begins, then_reads_where}
 
 -- ---- one after another
@@ -24,11 +24,6 @@ shrinks_by f S F P r b ts x rest e =
     let l = ap length u.is ∙ length-append u.front rest in
     let m = ap length v.3 in
     omega arith
-
--- what was read before comes first
-abbrev pub put_all : {X : Type 0} → List X → Result (List X × List Lexeme) ℕ → Result (List X × List Lexeme) ℕ
-put_all out (Ok q) = Ok (out ++ q.0, q.1)
-put_all out (Err n) = Err n
 
 put_all_put : {X : Type 0} (out : List X) (x : X) (a : Result (List X × List Lexeme) ℕ) → put_all out (then_read a (λ xs s. Ok (x ∷ xs, s))) ≡ put_all (out ++ x ∷ []) a
 put_all_put out x (Ok q) = ap (λ (l : List _). Ok (l, q.1)) (sym (append_assoc out (x ∷ []) q.0))
@@ -86,6 +81,20 @@ module _ {X : Type 0} (p : Option Lexeme → Bool) (f : Read X) (shrinks : Shrin
   pub put_step : (out : List X) (ts after : List Lexeme) (x : X) → p (head ts) ≡ true → f ts ≡ Ok (x, after) → put_all out (many_at p f ts) ≡ put_all (out ++ x ∷ []) (many_at p f after)
   unfolding put
   put_step out ts after x g e = ap (put_all out) (many_step ts x after g e) ∙ put_all_put out x (many_at p f after)
+
+  -- what a loop has read, and what is left
+  abbrev pub SoFar : List X → List Lexeme → List X → List Lexeme → Type 0
+  SoFar before ts out rest = put_all before (many_at p f ts) ≡ put_all out (many_at p f rest)
+
+  pub so_far_more : (before : List X) (ts : List Lexeme) (out : List X) (rest after : List Lexeme) (x : X) → SoFar before ts out rest → p (head rest) ≡ true → f rest ≡ Ok (x, after) → SoFar before ts (out ++ x ∷ []) after
+  so_far_more before ts out rest after x h g e = h ∙ put_step out rest after x g e
+
+  pub so_far_ends : (before : List X) (ts : List Lexeme) (out : List X) (rest : List Lexeme) → SoFar before ts out rest → p (head rest) ≡ false → put_all before (many_at p f ts) ≡ Ok (out, rest)
+  so_far_ends before ts out rest h g = h ∙ ap (put_all out) (many_stops rest g) ∙ ap (λ (l : List X). Ok (l, rest)) (append-nil out)
+
+  pub so_far_fails : (before : List X) (ts : List Lexeme) (out : List X) (rest : List Lexeme) (e : Or ℕ) → SoFar before ts out rest → p (head rest) ≡ true → Fails e (f rest) → Fails e (put_all before (many_at p f ts))
+  so_far_fails before ts out rest Memory h g k = tt
+  so_far_fails before ts out rest (Refused n) h g k = h ∙ ap (put_all out) (many_fails rest n g k)
 
 -- ---- what is repeated is read as it is spelled
 module _ {X : Type 0} (p : Option Lexeme → Bool) (f : Read X) (S : List Lexeme → X → Type 0) (r : Reads f S Free) (b : Begins S (λ t. p (Some t) ≡ true)) (ends : p None ≡ false) where

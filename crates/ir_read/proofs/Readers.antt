@@ -254,6 +254,10 @@ module _ {K X : Type 0} (form : Option Lexeme → Option K) (f : K → Read X) (
     spelled = (k, (r k).spelled);
   }
 
+-- where fewer rests are allowed
+pub reads_before : {X : Type 0} {f : Read X} {S : List Lexeme → X → Type 0} {F : List Lexeme → Type 0} (H : List Lexeme → Type 0) → ((ts : List Lexeme) → H ts → F ts) → Reads f S F → Reads f S H
+reads_before H w r = record { takes = r.takes; halts = r.halts; only = λ front rest x s h. r.only front rest x s (w rest h); some = r.some; value = r.value; spelled = r.spelled }
+
 -- ---- the same texts, said in another way
 pub reads_as : {X : Type 0} (f : Read X) (S T : List Lexeme → X → Type 0) (F : List Lexeme → Type 0) → Reads f S F → ((ts : List Lexeme) (x : X) → S ts x → T ts x) → ((ts : List Lexeme) (x : X) → T ts x → S ts x) → Reads f T F
 reads_as f S T F r a b = record {

@@ -19,7 +19,7 @@ pub chosen_some : {A : Type 0} (b : Bool) (x : Option A) (z : A) → cond b x No
 chosen_some true x z e = (refl, e)
 chosen_some false x z e = let f : ⊥ = cc in absurd f
 
-some_is : {A : Type 0} (x y : A) → ◌≡◌ {A = Option A} (Some x) (Some y) → x ≡ y
+pub some_is : {A : Type 0} (x y : A) → ◌≡◌ {A = Option A} (Some x) (Some y) → x ≡ y
 some_is x y e = cc
 
 same_bytes : (x w : List ℕ) → bytes_eq x w ≡ true → x ≡ w
@@ -37,7 +37,7 @@ abbrev pub distinct : {V : Type 0} → List (List ℕ × V) → Bool
 distinct [] = true
 distinct (e ∷ es) = if fresh e.0 es then distinct es else false
 
-look_found : {V : Type 0} (es : List (List ℕ × V)) (x : List ℕ) (v : V) → look_up es x ≡ Some v → InTable es x v
+pub look_found : {V : Type 0} (es : List (List ℕ × V)) (x : List ℕ) (v : V) → look_up es x ≡ Some v → InTable es x v
 look_found [] x v e = let f : ⊥ = cc in f
 look_found (a ∷ es) x v e = elim (chosen (bytes_eq x a.0) _ _ _ e) [
   | inl p ↦ inl (same_bytes x a.0 p.0, let q = p.1 in let k : a.1 ≡ v = cc in sym k)
@@ -59,7 +59,7 @@ look_later : {V : Type 0} (a : List ℕ × V) (es : List (List ℕ × V)) (x : L
 look_later a es x v i e f true h = absurd (not_fresh es a.0 v (subst (λ y. InTable es y v) (same_bytes x a.0 h) i) f)
 look_later a es x v i e f false h = ap (λ (b : Bool). cond b (Some a.1) (look_up es x)) h ∙ e
 
-look_only : {V : Type 0} (es : List (List ℕ × V)) (x : List ℕ) (v : V) → distinct es ≡ true → InTable es x v → look_up es x ≡ Some v
+pub look_only : {V : Type 0} (es : List (List ℕ × V)) (x : List ℕ) (v : V) → distinct es ≡ true → InTable es x v → look_up es x ≡ Some v
 look_only [] x v d i = absurd i
 look_only (a ∷ es) x v d (inl p) =
     let k : bytes_eq x a.0 ≡ true = subst (λ y. bytes_eq x y ≡ true) p.0 (bytes_same x) in
@@ -149,6 +149,9 @@ mark_tests m = kind_tests (is_mark m) (Mark m) (mark_kind m) ((Decides-eqb m m).
 -- ---- words
 spells_only : (w : List ℕ) (t : Lexeme) → t.kind ≡ Word → t.bytes ≡ w → spells_word w t ≡ true
 spells_only w t k e = ap (λ (q : TokenKind). cond (is_word q) (bytes_eq t.bytes w) false) k ∙ ap (λ (l : List ℕ). bytes_eq l w) e ∙ bytes_same w
+
+pub is_spelled : (w : List ℕ) (t : Lexeme) (line : ℕ) → IsWord w t line → spells_word w t ≡ true
+is_spelled w t line h = spells_only w t h.0 h.1
 
 pub spells_found : (w : List ℕ) (t : Lexeme) → spells_word w t ≡ true → (t.kind ≡ Word) × (t.bytes ≡ w)
 spells_found w t e = elim (chosen (is_word t.kind) _ _ _ e) [

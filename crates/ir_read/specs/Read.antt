@@ -1,5 +1,5 @@
 -- Ways to read from left to right, in the same steps as the ways to spell.
-use Rattle.std.specs.Prelude.{◌≡◌, ℕ, zero, suc, ◌<◌, ◌-◌, List, [], ◌∷◌, Option, Some, None, Result, Ok, Err, Bool, true, false, ◌==◌, if◌then◌else◌, length, drop, take}
+use Rattle.std.specs.Prelude.{◌≡◌, ℕ, zero, suc, ◌<◌, ◌-◌, List, [], ◌∷◌, ◌++◌, Option, Some, None, Result, Ok, Err, Bool, true, false, ◌==◌, if◌then◌else◌, length, drop, take}
 use Rattle.std.specs.Str.{bytes_eq}
 use Rattle.ir_core.specs.declared.answers.Or.{Or}
 use Rattle.ir_core.specs.declared.answers.Or.TheVariants.{Refused, Memory}
@@ -58,6 +58,11 @@ turns p f (suc n) ts = turn (p (head ts)) f (turns p f n) ts
 
 unfoldable pub many_at : {X : Type 0} → (Option Lexeme → Bool) → Read X → Read (List X)
 many_at p f ts = turns p f (length ts) ts
+
+-- what was read before comes first
+abbrev pub put_all : {X : Type 0} → List X → Result (List X × List Lexeme) ℕ → Result (List X × List Lexeme) ℕ
+put_all out (Ok p) = Ok (out ++ p.0, p.1)
+put_all out (Err n) = Err n
 
 -- each value that is read leaves fewer tokens
 abbrev pub Shrinks : {X : Type 0} → Read X → Type 0
@@ -138,15 +143,19 @@ after_comma_at f = do
   comma ← one_at (as_mark 44)
   f
 
+-- values behind commas, which follow those that were read before
+abbrev pub more_at : {X : Type 0} → Read X → List X → Read (List X)
+more_at f out ts = put_all out (many_at (at_mark 44) (after_comma_at f) ts)
+
 unfoldable pub items_at : {X : Type 0} → ℕ → Read X → Items → Read (List X)
 items_at close f AtEnd = do
   end ← one_at (as_mark close)
   done []
 items_at close f OneMore = do
   x ← f
-  xs ← many_at (at_mark 44) (after_comma_at f)
+  xs ← more_at f (x ∷ [])
   end ← one_at (as_mark close)
-  done (x ∷ xs)
+  done xs
 
 abbrev pub items_form : ℕ → Option Lexeme → Option Items
 items_form close o = if at_mark close o then Some AtEnd else Some OneMore
