@@ -13,13 +13,13 @@ use Rattle.ir_core.specs.Tokens.{Lexeme, TokenKind, Word, Local, Label, Mark}
 use Rattle.ir_core.specs.Spell.{IsFirstRefused, any, many, IsWord, IsWordIn, with_line, list_to}
 use Rattle.ir_core.specs.Spell as spell
 use Rattle.ir_core.specs.Grammar.{IsLocal, IsGlobal, IsLabel, IsValue, IsScalarType, IsResultType, scalar_types, result_types, typed, next_typed, next_value, target, next_target, call, no_flags, predicates, ValueForm, Binary, Compare, LoadForm, CallForm, value_words, value_of_form, value, PlainForm, Assigns, Stores, Calls, plain_words, plain_of, plain, BranchForm, Straight, Tested, branch_of, LastForm, Branches, Returns, last_words, last_of, block, param, numbered, body, FunctionForm, Defines, Declares, function_words, heading, function_of, of_functions, functions_to_end}
-use Rattle.ir_read.specs.Read.{one_at, goes, pick, many_at, whole, head, as_local, as_global, as_label, as_mark, as_word, as_table, with_line_of, is_mark, is_word, is_local, is_label, spells_word, look_up, list_at}
+use Rattle.ir_read.specs.Read.{Shrinks, one_at, goes, pick, many_at, whole, head, as_local, as_global, as_label, as_mark, as_word, as_table, with_line_of, is_mark, is_word, is_local, is_label, spells_word, look_up, list_at}
 use Rattle.ir_read.specs.Reading.{as_scalar_type, as_result_type, as_value, typed_at, next_typed_at, next_value_at, target_at, next_target_at, call_at, binary_at, compare_at, load_at, value_at_form, value_at, assignment_at, store_at, plain_call_at, plain_at_form, plain_form, plain_goes, plain_at, straight_at, tested_at, branch_at_form, branch_form, branch_at, last_branch_at, return_at, form_in, last_at_form, last_at, block_at, label_goes, param_at, body_at, heading_at, definition_at, declaration_at, function_at_form, function_form, function_goes, function_at, functions_at, module_at}
 use Rattle.ir_read.proofs.Readers.{Reads, Free, Begins, one_reads, done_reads, then_reads, pick_reads, one_begins, then_begins, any_begins, then_reads_where, reads_before}
-use Rattle.ir_read.proofs.Many.{Stops, many_reads, many_then_reads}
+use Rattle.ir_read.proofs.Many.{Stops, shrinks_by, many_reads, many_then_reads}
 use Rattle.ir_read.proofs.Tests.{local_tests, global_tests, label_tests, word_tests, table_tests, lined_tests, is_spelled, not_spelled}
 use Rattle.ir_read.proofs.Lists.{mark_reads, list_reads}
-use Rattle.ir_read.proofs.Operands.{value_tests}
+use Rattle.ir_read.proofs.Values.{value_tests}
 use Rattle.ir_read.proofs.Whole.{whole_found, whole_refused, whole_only}
 
 -- ---- single tokens
@@ -61,6 +61,15 @@ typed_reads =
     then_reads (value_token_reads ty) (λ v.
     done_reads (record { ty = ty; value = v })))
 
+typed_first : Begins typed (λ t. t.kind ≡ Word)
+typed_first = then_begins _ _ _ (one_begins IsScalarType _ (λ t ty h. h.0))
+
+pub scalar_type_shrinks : Shrinks (one_at as_scalar_type)
+scalar_type_shrinks = shrinks_by _ _ Free (λ t. t.kind ≡ Word) scalar_type_reads (one_begins IsScalarType _ (λ t ty h. h.0))
+
+pub typed_shrinks : Shrinks typed_at
+typed_shrinks = shrinks_by typed_at typed Free _ typed_reads typed_first
+
 pub next_typed_reads : Reads next_typed_at next_typed Free
 unfolding next_typed_at
 next_typed_reads = then_reads (mark_reads 44) (λ comma. typed_reads)
@@ -80,7 +89,7 @@ next_target_reads = then_reads (mark_reads 44) (λ comma. target_reads)
 -- ---- instructions
 
 -- what begins with a word begins with no mark
-scalar_type_no_mark : (m : ℕ) (t : Lexeme) (ty : Ty) → IsScalarType t ty → is_mark m t.kind ≡ false
+pub scalar_type_no_mark : (m : ℕ) (t : Lexeme) (ty : Ty) → IsScalarType t ty → is_mark m t.kind ≡ false
 scalar_type_no_mark m t ty h = ap (is_mark m) h.0
 
 pub call_reads : Reads call_at call Free
@@ -161,6 +170,9 @@ plain_reads = pick_reads plain_form plain_at_form plain_of Free plain_form_reads
 pub plain_first : Begins plain (λ t. plain_goes (Some t) ≡ true)
 plain_first front x s = let u = plain_begins s.0 front x s.1 in (u.0, u.1, ap goes u.2, u.3)
 
+pub plain_shrinks : Shrinks plain_at
+plain_shrinks = shrinks_by plain_at plain Free _ plain_reads plain_first
+
 branch_form_reads : (form : BranchForm) → Reads (branch_at_form form) (branch_of form) Free
 unfolding straight_at tested_at
 branch_form_reads Straight = then_reads target_reads (λ to. done_reads (Br to))
@@ -216,6 +228,9 @@ block_reads =
 pub block_first : Begins block (λ t. label_goes (Some t) ≡ true)
 block_first = then_begins _ _ _ (one_begins (with_line IsLabel) _ (λ t x h. ap is_label h.0.0))
 
+pub block_shrinks : Shrinks block_at
+block_shrinks = shrinks_by block_at block Free _ block_reads block_first
+
 pub blocks_reads : Reads (many_at label_goes block_at) (many block) (Stops label_goes)
 blocks_reads = many_reads label_goes block_at block block_reads block_first refl
 
@@ -225,6 +240,12 @@ param_reads =
     then_reads scalar_type_reads (λ ty.
     then_reads local_reads (λ name.
     done_reads (record { name = name; ty = ty })))
+
+param_first : Begins param (λ t. t.kind ≡ Word)
+param_first = then_begins _ _ _ (one_begins IsScalarType _ (λ t ty h. h.0))
+
+pub param_shrinks : Shrinks param_at
+param_shrinks = shrinks_by param_at param Free _ param_reads param_first
 
 pub body_reads : Reads body_at body Free
 unfolding body_at
@@ -266,6 +287,9 @@ function_reads = pick_reads function_form function_at_form function_of Free func
 
 pub function_first : Begins (any function_of) (λ t. function_goes (Some t) ≡ true)
 function_first front x s = let u = function_begins s.0 front x s.1 in (u.0, u.1, ap goes u.2, u.3)
+
+pub function_shrinks : Shrinks function_at
+function_shrinks = shrinks_by function_at (any function_of) Free _ function_reads function_first
 
 -- ---- modules
 

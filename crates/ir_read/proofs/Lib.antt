@@ -3,5 +3,6 @@ pub mod Many
 pub mod Whole
 pub mod Tests
 pub mod Lists
-pub mod Operands
+pub mod Values
+pub mod Digits
 pub mod Laws

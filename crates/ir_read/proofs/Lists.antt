@@ -1,12 +1,12 @@
 -- Lists between marks.
-use Rattle.std.proofs.Common.{◌≡◌, ℕ, List, [], ◌∷◌, Option, Some, Bool, true, false, cond, Result, Ok, Err, refl, ap, ◌∙◌, subst}
+use Rattle.std.proofs.Common.{◌≡◌, ℕ, List, [], ◌∷◌, Option, Some, Bool, true, false, cond, Result, Ok, Err, refl, sym, ap, ◌∙◌, subst, length, ◌<◌, None, arith}
 use Rattle.std.specs.Prelude.{◌==◌}
 use Rattle.std.proofs.lemmas.Bool.Decides.{Decides-eqb}
 use Rattle.ir_core.specs.Tokens.{Lexeme}
 use Rattle.ir_core.specs.Spell.{IsMark, Items, AtEnd, OneMore, items, after_comma, list_to, many}
 use Rattle.ir_core.specs.Spell as spell
-use Rattle.ir_read.specs.Read.{Read, then_read, ◌>>=◌, done, one_at, many_at, put_all, more_at, as_mark, is_mark, at_mark, after_comma_at, items_at, items_form, list_at}
-use Rattle.ir_read.proofs.Readers.{Reads, Free, Begins, one_reads, done_reads, then_reads, pick_reads, one_begins, then_begins}
+use Rattle.ir_read.specs.Read.{Read, Shrinks, made, then_read, ◌>>=◌, done, one_at, many_at, put_all, more_at, as_mark, is_mark, at_mark, after_comma_at, items_at, items_form, list_at}
+use Rattle.ir_read.proofs.Readers.{ok_not_err, Reads, Free, Begins, one_reads, done_reads, then_reads, pick_reads, one_begins, then_begins}
 use Rattle.ir_read.proofs.Many.{Stops, many_reads, many_then_reads}
 use Rattle.ir_read.proofs.Tests.{mark_tests}
 
@@ -62,3 +62,14 @@ module _ {X : Type 0} (f : Read X) (S : List Lexeme → X → Type 0) (r : Reads
     -- x, .. and the closing mark
     pub list_reads : Reads (list_at close f) (list_to close S) Free
     list_reads = pick_reads (items_form close) (items_at close f) (items close S) Free items_reads items_begins AtEnd
+
+-- what shrinks behind a comma
+module _ {X : Type 0} (f : Read X) (shrinks : Shrinks f) where
+  by_comma : (o : Option ℕ) (t : Lexeme) (ts : List Lexeme) (x : X) (rest : List Lexeme) → then_read (made o t ts) (λ comma. f) ≡ Ok (x, rest) → length rest < length (t ∷ ts)
+  by_comma None t ts x rest e = absurd (ok_not_err (x, rest) _ (sym e))
+  by_comma (Some line) t ts x rest e = let h = shrinks ts x rest e in omega arith
+
+  pub after_comma_shrinks : Shrinks (after_comma_at f)
+  unfolding after_comma_at
+  after_comma_shrinks [] x rest e = absurd (ok_not_err (x, rest) 0 (sym e))
+  after_comma_shrinks (t ∷ ts) x rest e = by_comma (as_mark 44 t) t ts x rest e

@@ -82,19 +82,17 @@ module _ {X : Type 0} (p : Option Lexeme → Bool) (f : Read X) (shrinks : Shrin
   unfolding put
   put_step out ts after x g e = ap (put_all out) (many_step ts x after g e) ∙ put_all_put out x (many_at p f after)
 
-  -- what a loop has read, and what is left
-  abbrev pub SoFar : List X → List Lexeme → List X → List Lexeme → Type 0
-  SoFar before ts out rest = put_all before (many_at p f ts) ≡ put_all out (many_at p f rest)
+  -- a loop, after what it has read: all that comes of a is what comes of out and the rest
+  module _ (a : Result (List X × List Lexeme) ℕ) (out : List X) (rest : List Lexeme) (so_far : a ≡ put_all out (many_at p f rest)) where
+    pub loop_more : (after : List Lexeme) (x : X) → p (head rest) ≡ true → f rest ≡ Ok (x, after) → a ≡ put_all (out ++ x ∷ []) (many_at p f after)
+    loop_more after x g e = so_far ∙ put_step out rest after x g e
 
-  pub so_far_more : (before : List X) (ts : List Lexeme) (out : List X) (rest after : List Lexeme) (x : X) → SoFar before ts out rest → p (head rest) ≡ true → f rest ≡ Ok (x, after) → SoFar before ts (out ++ x ∷ []) after
-  so_far_more before ts out rest after x h g e = h ∙ put_step out rest after x g e
+    pub loop_ends : p (head rest) ≡ false → a ≡ Ok (out, rest)
+    loop_ends g = so_far ∙ ap (put_all out) (many_stops rest g) ∙ ap (λ (l : List X). Ok (l, rest)) (append-nil out)
 
-  pub so_far_ends : (before : List X) (ts : List Lexeme) (out : List X) (rest : List Lexeme) → SoFar before ts out rest → p (head rest) ≡ false → put_all before (many_at p f ts) ≡ Ok (out, rest)
-  so_far_ends before ts out rest h g = h ∙ ap (put_all out) (many_stops rest g) ∙ ap (λ (l : List X). Ok (l, rest)) (append-nil out)
-
-  pub so_far_fails : (before : List X) (ts : List Lexeme) (out : List X) (rest : List Lexeme) (e : Or ℕ) → SoFar before ts out rest → p (head rest) ≡ true → Fails e (f rest) → Fails e (put_all before (many_at p f ts))
-  so_far_fails before ts out rest Memory h g k = tt
-  so_far_fails before ts out rest (Refused n) h g k = h ∙ ap (put_all out) (many_fails rest n g k)
+    pub loop_fails : (e : Or ℕ) → p (head rest) ≡ true → Fails e (f rest) → Fails e a
+    loop_fails Memory g k = tt
+    loop_fails (Refused n) g k = so_far ∙ ap (put_all out) (many_fails rest n g k)
 
 -- ---- what is repeated is read as it is spelled
 module _ {X : Type 0} (p : Option Lexeme → Bool) (f : Read X) (S : List Lexeme → X → Type 0) (r : Reads f S Free) (b : Begins S (λ t. p (Some t) ≡ true)) (ends : p None ≡ false) where
