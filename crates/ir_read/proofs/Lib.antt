@@ -5,4 +5,7 @@ pub mod Tests
 pub mod Lists
 pub mod Values
 pub mod Digits
+pub mod Numbered
 pub mod Laws
+pub mod Lexing
+pub mod Texts
