@@ -297,9 +297,9 @@ pub functions_reads : Reads functions_at functions_to_end (Stops function_goes)
 unfolding functions_at
 functions_reads =
     then_reads_where _ _ (Stops function_goes) _ _ (Stops function_goes)
-        (many_reads function_goes function_at (any function_of) function_reads function_first refl)
-        (λ functions. reads_before (Stops function_goes) (λ ts h. tt) (done_reads (of_functions functions)))
-        (λ functions front rest m s k. subst (λ l. Stops function_goes (l ++ rest)) (sym s.0) k)
+    (many_reads function_goes function_at (any function_of) function_reads function_first refl)
+    (λ functions. reads_before (Stops function_goes) (λ ts h. tt) (done_reads (of_functions functions)))
+    (λ functions front rest m s k. subst (λ l. Stops function_goes (l ++ rest)) (sym s.0) k)
 
 pub module_found : (ts : List Lexeme) (m : Module) (left : List Lexeme) → module_at ts ≡ Ok (m, left) → functions_to_end ts m
 module_found = whole_found functions_at functions_to_end _ functions_reads refl

@@ -127,7 +127,11 @@ fn part(text: &[u8], start: u32, end: u32) -> &[u8]
 {
     let start = (start as usize).min(text.len());
     let end = (end as usize).min(text.len());
-    if start < end { &text[start..end] } else { &text[..0] }
+    if start < end {
+        &text[start..end]
+    } else {
+        &text[..0]
+    }
 }
 
 impl<'a> Ahead<'a> {

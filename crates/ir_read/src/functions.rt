@@ -29,7 +29,7 @@ fn read_block<'a>(alloc: Global, ahead: Ahead<'a>) -> Reading<'a, Block>
 impl Part for Block {
     ghost reading = { block_at };
 
-    fn read<'a>(alloc: Global, ahead: Ahead<'a>) -> Result<(Block, Ahead<'a>), Or<usize>> {
+    fn read<'a>(alloc: Global, ahead: Ahead<'a>) -> Reading<'a, Block> {
         read_block(alloc, ahead)
     }
 }
@@ -58,7 +58,7 @@ fn read_param<'a>(alloc: Global, ahead: Ahead<'a>) -> Reading<'a, Param>
 impl Part for Param {
     ghost reading = { param_at };
 
-    fn read<'a>(alloc: Global, ahead: Ahead<'a>) -> Result<(Param, Ahead<'a>), Or<usize>> {
+    fn read<'a>(alloc: Global, ahead: Ahead<'a>) -> Reading<'a, Param> {
         read_param(alloc, ahead)
     }
 }
@@ -170,7 +170,7 @@ fn read_function<'a>(alloc: Global, ahead: Ahead<'a>) -> Reading<'a, Function>
 impl Part for Function {
     ghost reading = { function_at };
 
-    fn read<'a>(alloc: Global, ahead: Ahead<'a>) -> Result<(Function, Ahead<'a>), Or<usize>> {
+    fn read<'a>(alloc: Global, ahead: Ahead<'a>) -> Reading<'a, Function> {
         read_function(alloc, ahead)
     }
 }

@@ -10,7 +10,9 @@ use crate::forms::{
     BranchForm, LastForm, PlainForm, ValueForm, branch_form_ahead, last_form_ahead,
     plain_form_ahead, value_form_of,
 };
-use crate::operands::{read_next_target, read_next_typed, read_next_value, read_target, read_typed, read_value};
+use crate::operands::{
+    read_next_target, read_next_typed, read_next_value, read_target, read_typed, read_value,
+};
 use crate::repeated::{Part, Repeated, read_list};
 use crate::tokens::{Reading, expect_mark, expect_word, read_global, read_local_with_line};
 use crate::types::{read_result_type, read_scalar_type};
@@ -48,7 +50,16 @@ fn read_binary<'a>(alloc: Global, op: BinOp, ahead: Ahead<'a>) -> Reading<'a, Ki
         nuw: false,
         exact: false,
     };
-    Ok((Kind::Bin { op, flags, ty, a, b }, rest))
+    Ok((
+        Kind::Bin {
+            op,
+            flags,
+            ty,
+            a,
+            b,
+        },
+        rest,
+    ))
 }
 
 fn predicate_of(word: &[u8]) -> Option<Pred>
@@ -66,17 +77,11 @@ fn read_predicate<'a>(ahead: Ahead<'a>) -> Reading<'a, Pred>
 {
     let left = ahead.left();
     match ahead.split() {
-        Some((token, rest)) => {
-            if token.is_word() {
-                match predicate_of(token.bytes()) {
-                    Some(pred) => Ok((pred, rest)),
-                    None => Err(Or::Refused(left)),
-                }
-            } else {
-                Err(Or::Refused(left))
-            }
-        }
-        None => Err(Or::Refused(left)),
+        Some((token, rest)) if token.is_word() => match predicate_of(token.bytes()) {
+            Some(pred) => Ok((pred, rest)),
+            None => Err(Or::Refused(left)),
+        },
+        _ => Err(Or::Refused(left)),
     }
 }
 
@@ -113,17 +118,11 @@ fn read_value_form<'a>(ahead: Ahead<'a>) -> Reading<'a, ValueForm>
 {
     let left = ahead.left();
     match ahead.split() {
-        Some((token, rest)) => {
-            if token.is_word() {
-                match value_form_of(token.bytes()) {
-                    Some(form) => Ok((form, rest)),
-                    None => Err(Or::Refused(left)),
-                }
-            } else {
-                Err(Or::Refused(left))
-            }
-        }
-        None => Err(Or::Refused(left)),
+        Some((token, rest)) if token.is_word() => match value_form_of(token.bytes()) {
+            Some(form) => Ok((form, rest)),
+            None => Err(Or::Refused(left)),
+        },
+        _ => Err(Or::Refused(left)),
     }
 }
 
@@ -280,7 +279,7 @@ pub(crate) fn read_last<'a>(alloc: Global, ahead: Ahead<'a>) -> Reading<'a, Inst
 impl Part for Inst {
     ghost reading = { plain_at };
 
-    fn read<'a>(alloc: Global, ahead: Ahead<'a>) -> Result<(Inst, Ahead<'a>), Or<usize>> {
+    fn read<'a>(alloc: Global, ahead: Ahead<'a>) -> Reading<'a, Inst> {
         read_plain(alloc, ahead)
     }
 }

@@ -65,7 +65,11 @@ fn append_digit(number: u64, digit: u8) -> Option<u64>
     ensures { result ≡ in_word (with_digit number digit) }
 {
     let next = 10 * u128::from(number) + u128::from(digit.saturating_sub(b'0'));
-    if next < 1 << 64 { Some(next as u64) } else { None }
+    if next < 1 << 64 {
+        Some(next as u64)
+    } else {
+        None
+    }
 }
 
 /// The number that digits spell, if it is below 2^64.

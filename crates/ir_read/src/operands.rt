@@ -99,7 +99,7 @@ pub(crate) fn read_next_target<'a>(alloc: Global, ahead: Ahead<'a>) -> Reading<'
 impl Part for Typed {
     ghost reading = { typed_at };
 
-    fn read<'a>(alloc: Global, ahead: Ahead<'a>) -> Result<(Typed, Ahead<'a>), Or<usize>> {
+    fn read<'a>(alloc: Global, ahead: Ahead<'a>) -> Reading<'a, Typed> {
         read_typed(alloc, ahead)
     }
 }
@@ -107,7 +107,7 @@ impl Part for Typed {
 impl Part for Ty {
     ghost reading = { one_at as_scalar_type };
 
-    fn read<'a>(_: Global, ahead: Ahead<'a>) -> Result<(Ty, Ahead<'a>), Or<usize>> {
+    fn read<'a>(_: Global, ahead: Ahead<'a>) -> Reading<'a, Ty> {
         read_scalar_type(ahead)
     }
 }

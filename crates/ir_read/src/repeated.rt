@@ -12,7 +12,7 @@ use std::alloc::Global;
 pub(crate) trait Part: Drop + Sized {
     ghost reading: { Read Self };
 
-    fn read<'a>(alloc: Global, ahead: Ahead<'a>) -> Result<(Self, Ahead<'a>), Or<usize>>
+    fn read<'a>(alloc: Global, ahead: Ahead<'a>) -> Reading<'a, Self>
         ensures { Gives result (reading ahead.entry) };
 }
 

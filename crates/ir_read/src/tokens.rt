@@ -15,35 +15,24 @@ pub(crate) fn read_local<'a>(alloc: Global, ahead: Ahead<'a>) -> Reading<'a, Nam
 {
     let left = ahead.left();
     match ahead.split() {
-        Some((token, rest)) => {
-            if token.is_local() {
-                Ok((Name::from_slice(alloc, token.name())?, rest))
-            } else {
-                Err(Or::Refused(left))
-            }
+        Some((token, rest)) if token.is_local() => {
+            Ok((Name::from_slice(alloc, token.name())?, rest))
         }
-        None => Err(Or::Refused(left)),
+        _ => Err(Or::Refused(left)),
     }
 }
 
 /// `%N`, with its line.
-pub(crate) fn read_local_with_line<'a>(
-    alloc: Global,
-    ahead: Ahead<'a>,
-) -> Reading<'a, (Name, u32)>
+pub(crate) fn read_local_with_line<'a>(alloc: Global, ahead: Ahead<'a>) -> Reading<'a, (Name, u32)>
     ensures { Gives result (one_at (with_line_of as_local) ahead.entry) }
 {
     let left = ahead.left();
     match ahead.split() {
-        Some((token, rest)) => {
-            if token.is_local() {
-                let name = Name::from_slice(alloc, token.name())?;
-                Ok(((name, token.line()), rest))
-            } else {
-                Err(Or::Refused(left))
-            }
+        Some((token, rest)) if token.is_local() => {
+            let name = Name::from_slice(alloc, token.name())?;
+            Ok(((name, token.line()), rest))
         }
-        None => Err(Or::Refused(left)),
+        _ => Err(Or::Refused(left)),
     }
 }
 
@@ -53,14 +42,10 @@ pub(crate) fn read_global<'a>(alloc: Global, ahead: Ahead<'a>) -> Reading<'a, Na
 {
     let left = ahead.left();
     match ahead.split() {
-        Some((token, rest)) => {
-            if token.is_global() {
-                Ok((Name::from_slice(alloc, token.name())?, rest))
-            } else {
-                Err(Or::Refused(left))
-            }
+        Some((token, rest)) if token.is_global() => {
+            Ok((Name::from_slice(alloc, token.name())?, rest))
         }
-        None => Err(Or::Refused(left)),
+        _ => Err(Or::Refused(left)),
     }
 }
 
@@ -70,15 +55,11 @@ pub(crate) fn read_label<'a>(alloc: Global, ahead: Ahead<'a>) -> Reading<'a, (Na
 {
     let left = ahead.left();
     match ahead.split() {
-        Some((token, rest)) => {
-            if token.is_label() {
-                let name = Name::from_slice(alloc, token.label_name())?;
-                Ok(((name, token.line()), rest))
-            } else {
-                Err(Or::Refused(left))
-            }
+        Some((token, rest)) if token.is_label() => {
+            let name = Name::from_slice(alloc, token.label_name())?;
+            Ok(((name, token.line()), rest))
         }
-        None => Err(Or::Refused(left)),
+        _ => Err(Or::Refused(left)),
     }
 }
 
@@ -88,14 +69,8 @@ pub(crate) fn expect_word<'a>(ahead: Ahead<'a>, word: &[u8]) -> Reading<'a, u32>
 {
     let left = ahead.left();
     match ahead.split() {
-        Some((token, rest)) => {
-            if token.spells(word) {
-                Ok((token.line(), rest))
-            } else {
-                Err(Or::Refused(left))
-            }
-        }
-        None => Err(Or::Refused(left)),
+        Some((token, rest)) if token.spells(word) => { Ok((token.line(), rest)) }
+        _ => Err(Or::Refused(left)),
     }
 }
 
@@ -105,13 +80,7 @@ pub(crate) fn expect_mark<'a>(ahead: Ahead<'a>, mark: u8) -> Reading<'a, u32>
 {
     let left = ahead.left();
     match ahead.split() {
-        Some((token, rest)) => {
-            if token.is_mark(mark) {
-                Ok((token.line(), rest))
-            } else {
-                Err(Or::Refused(left))
-            }
-        }
-        None => Err(Or::Refused(left)),
+        Some((token, rest)) if token.is_mark(mark) => { Ok((token.line(), rest)) }
+        _ => Err(Or::Refused(left)),
     }
 }

@@ -47,17 +47,11 @@ pub(crate) fn read_scalar_type<'a>(ahead: Ahead<'a>) -> Reading<'a, Ty>
 {
     let left = ahead.left();
     match ahead.split() {
-        Some((token, rest)) => {
-            if token.is_word() {
-                match scalar_type(token.bytes()) {
-                    Some(ty) => Ok((ty, rest)),
-                    None => Err(Or::Refused(left)),
-                }
-            } else {
-                Err(Or::Refused(left))
-            }
-        }
-        None => Err(Or::Refused(left)),
+        Some((token, rest)) if token.is_word() => match scalar_type(token.bytes()) {
+            Some(ty) => Ok((ty, rest)),
+            None => Err(Or::Refused(left)),
+        },
+        _ => Err(Or::Refused(left)),
     }
 }
 
@@ -67,16 +61,10 @@ pub(crate) fn read_result_type<'a>(ahead: Ahead<'a>) -> Reading<'a, Ty>
 {
     let left = ahead.left();
     match ahead.split() {
-        Some((token, rest)) => {
-            if token.is_word() {
-                match result_type(token.bytes()) {
-                    Some(ty) => Ok((ty, rest)),
-                    None => Err(Or::Refused(left)),
-                }
-            } else {
-                Err(Or::Refused(left))
-            }
-        }
-        None => Err(Or::Refused(left)),
+        Some((token, rest)) if token.is_word() => match result_type(token.bytes()) {
+            Some(ty) => Ok((ty, rest)),
+            None => Err(Or::Refused(left)),
+        },
+        _ => Err(Or::Refused(left)),
     }
 }
