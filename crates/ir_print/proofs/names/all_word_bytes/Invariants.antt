@@ -1,7 +1,0 @@
-use Rattle.std.proofs.Common.{◌≡◌, drop}
-use Rattle.ir_core.specs.Bytes.{word_byte, every}
-use Rattle.ir_print.proofs.names.all_word_bytes.Given as goal
-
--- the answer for the rest is the answer for all
-abbrev pub invariant-loop-byte : goal.invariant-loop-byte
-invariant-loop-byte l = every word_byte (drop l.byte-index l.bytes) ≡ every word_byte l.bytes

@@ -1,0 +1,75 @@
+-- Lists between marks.
+use Rattle.std.proofs.Common.{◌≡◌, ℕ, List, [], ◌∷◌, Option, Some, Bool, true, false, cond, Result, Ok, Err, refl, sym, ap, ◌∙◌, subst, length, ◌<◌, None, arith}
+use Rattle.std.specs.Prelude.{◌==◌}
+use Rattle.std.proofs.lemmas.Bool.Decides.{Decides-eqb}
+use Rattle.ir_core.specs.Tokens.{Lexeme}
+use Rattle.ir_core.specs.Spell.{IsMark, Items, AtEnd, OneMore, items, after_comma, list_to, many}
+use Rattle.ir_core.specs.Spell as spell
+use Rattle.ir_read.specs.Read.{Read, Shrinks, made, then_read, ◌>>=◌, done, one_at, many_at, put_all, more_at, as_mark, is_mark, at_mark, after_comma_at, items_at, items_form, list_at}
+use Rattle.ir_read.proofs.Readers.{ok_not_err, Reads, Free, Begins, one_reads, done_reads, then_reads, pick_reads, one_begins, then_begins}
+use Rattle.ir_read.proofs.Many.{Stops, many_reads, many_then_reads}
+use Rattle.ir_read.proofs.Tests.{mark_tests}
+
+pub mark_reads : (m : ℕ) → Reads (one_at (as_mark m)) (spell.mark m) Free
+mark_reads m = one_reads _ _ (mark_tests m)
+
+module _ {X : Type 0} (f : Read X) (S : List Lexeme → X → Type 0) (r : Reads f S Free) where
+  pub after_comma_reads : Reads (after_comma_at f) (after_comma S) Free
+  unfolding after_comma_at
+  after_comma_reads = then_reads (mark_reads 44) (λ comma. r)
+
+  pub after_comma_begins : Begins (after_comma S) (λ t. at_mark 44 (Some t) ≡ true)
+  after_comma_begins = then_begins _ _ _ (one_begins _ _ (λ t line h. ap (is_mark 44) h.0))
+
+  more_reads : Reads (many_at (at_mark 44) (after_comma_at f)) (many (after_comma S)) (Stops (at_mark 44))
+  more_reads = many_reads (at_mark 44) (after_comma_at f) (after_comma S) after_comma_reads after_comma_begins refl
+
+  module _ (close : ℕ) (other : (close == 44) ≡ false) (b : Begins S (λ t. is_mark close t.kind ≡ false)) where
+    -- as in the grammar
+    by_grammar : X → Read (List X)
+    by_grammar x = many_at (at_mark 44) (after_comma_at f) >>= λ xs. one_at (as_mark close) >>= λ end. done (x ∷ xs)
+
+    by_loop : X → Read (List X)
+    by_loop x = more_at f (x ∷ []) >>= λ xs. one_at (as_mark close) >>= λ end. done xs
+
+    same_by : (x : X) (a : Result (List X × List Lexeme) ℕ) → then_read a (λ xs r. then_read (one_at (as_mark close) r) (λ end. done (x ∷ xs))) ≡ then_read (put_all (x ∷ []) a) (λ xs r. then_read (one_at (as_mark close) r) (λ end. done xs))
+    same_by x (Ok p) = refl
+    same_by x (Err n) = refl
+
+    same_reading : (x : X) → by_grammar x ≡ by_loop x
+    unfolding by_grammar by_loop
+    same_reading x = λ i ts. same_by x (many_at (at_mark 44) (after_comma_at f) ts) i
+
+    grammar_reads : (x : X) → Reads (by_grammar x) (spell.◌>>=◌ (many (after_comma S)) (λ xs. spell.◌>>=◌ (spell.mark close) (λ end. spell.done (x ∷ xs)))) Free
+    unfolding by_grammar
+    grammar_reads x =
+        many_then_reads (at_mark 44) more_reads (λ xs.
+        then_reads (mark_reads close) (λ end.
+        done_reads (x ∷ xs))) (λ xs. then_begins _ _ _ (one_begins _ _ (λ t line h. ap (is_mark 44) h.0 ∙ other)))
+
+    loop_reads : (x : X) → Reads (by_loop x) (spell.◌>>=◌ (many (after_comma S)) (λ xs. spell.◌>>=◌ (spell.mark close) (λ end. spell.done (x ∷ xs)))) Free
+    loop_reads x = subst (λ g. Reads g (spell.◌>>=◌ (many (after_comma S)) (λ xs. spell.◌>>=◌ (spell.mark close) (λ end. spell.done (x ∷ xs)))) Free) (same_reading x) (grammar_reads x)
+
+    items_reads : (form : Items) → Reads (items_at close f form) (items close S form) Free
+    unfolding items_at by_loop
+    items_reads AtEnd = then_reads (mark_reads close) (λ end. done_reads [])
+    items_reads OneMore = then_reads r loop_reads
+
+    items_begins : (form : Items) → Begins (items close S form) (λ t. items_form close (Some t) ≡ Some form)
+    items_begins AtEnd = then_begins _ _ _ (one_begins _ _ (λ t line h. ap (λ (c : Bool). cond c (Some AtEnd) (Some OneMore)) (ap (is_mark close) h.0 ∙ (Decides-eqb close close).1 refl)))
+    items_begins OneMore = then_begins _ _ _ (λ front x s. let u = b front x s in (u.0, u.1, ap (λ (c : Bool). cond c (Some AtEnd) (Some OneMore)) u.2, u.3))
+
+    -- x, .. and the closing mark
+    pub list_reads : Reads (list_at close f) (list_to close S) Free
+    list_reads = pick_reads (items_form close) (items_at close f) (items close S) Free items_reads items_begins AtEnd
+
+-- what shrinks behind a comma
+module _ {X : Type 0} (f : Read X) (shrinks : Shrinks f) where
+  by_comma : (o : Option ℕ) (t : Lexeme) (ts : List Lexeme) (x : X) (rest : List Lexeme) → then_read (made o t ts) (λ comma. f) ≡ Ok (x, rest) → length rest < length (t ∷ ts)
+  by_comma None t ts x rest e = absurd (ok_not_err (x, rest) _ (sym e))
+  by_comma (Some line) t ts x rest e = let h = shrinks ts x rest e in omega arith
+
+  pub after_comma_shrinks : Shrinks (after_comma_at f)
+  unfolding after_comma_at
+  after_comma_shrinks [] x rest e = absurd (ok_not_err (x, rest) 0 (sym e))
+  after_comma_shrinks (t ∷ ts) x rest e = by_comma (as_mark 44 t) t ts x rest e

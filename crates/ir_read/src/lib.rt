@@ -1,0 +1,15 @@
+//! Reads a module's text.
+#![tactic(auto)]
+
+mod ahead;
+mod forms;
+mod functions;
+mod instructions;
+mod module;
+mod numbers;
+mod operands;
+mod repeated;
+mod tokens;
+mod types;
+
+pub use module::{one_module, read_module};

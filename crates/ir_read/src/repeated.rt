@@ -1,0 +1,96 @@
+//! Parts that stand any number of times in a row.
+ghost use Rattle.std.specs.Prelude.{◌≡◌, [], ◌∷◌, None, false, Bool, Option};
+ghost use Rattle.ir_core.specs.Tokens.{Lexeme};
+ghost use Rattle.ir_read.specs.Read.{Read, Gives, Shrinks, head, many_at, after_comma_at, more_at, list_at, at_mark};
+
+use crate::ahead::Ahead;
+use crate::tokens::{Reading, expect_mark};
+use ir_core::{List, Or};
+use std::alloc::Global;
+
+/// What can be read by itself.
+pub(crate) trait Part: Drop + Sized {
+    ghost reading: { Read Self };
+
+    fn read<'a>(alloc: Global, ahead: Ahead<'a>) -> Reading<'a, Self>
+        ensures { Gives result (reading ahead.entry) };
+}
+
+/// What can be told from its first token.
+pub(crate) trait Repeated: Part {
+    ghost goes: { Option Lexeme → Bool };
+
+    fn begins(ahead: &Ahead) -> bool
+        ensures { result ≡ goes (head ahead.now) };
+}
+
+/// As many as begin, one after another.
+pub(crate) fn read_many<'a, T: Repeated>(alloc: Global, ahead: Ahead<'a>) -> Reading<'a, List<T>>
+    requires ends { T.goes None ≡ false }
+    requires shrinks { Shrinks T.reading }
+    ensures { Gives result (many_at T.goes T.reading ahead.entry) }
+{
+    let mut out = List::new(alloc);
+    let mut rest = ahead;
+    while T::begins(&rest) {
+        let (item, after) = T::read(alloc, rest)?;
+        out.push(item)?;
+        rest = after;
+    }
+    Ok((out, rest))
+}
+
+fn is_at_mark(ahead: &Ahead, mark: u8) -> bool
+    ensures { result ≡ at_mark mark (head ahead.now) }
+{
+    match ahead.first() {
+        Some(token) => token.is_mark(mark),
+        None => false,
+    }
+}
+
+/// `, x`.
+#[tactic(auto, unfolding(crate::specs::Read::after_comma_at))]
+fn read_after_comma<'a, T: Part>(alloc: Global, ahead: Ahead<'a>) -> Reading<'a, T>
+    ensures { Gives result (after_comma_at T.reading ahead.entry) }
+{
+    let (_, rest) = expect_mark(ahead, b',')?;
+    T::read(alloc, rest)
+}
+
+/// As many as stand behind commas, after those that were read before.
+fn read_more<'a, T: Part>(alloc: Global, before: List<T>, ahead: Ahead<'a>) -> Reading<'a, List<T>>
+    requires { Shrinks T.reading }
+    ensures { Gives result (more_at T.reading before ahead.entry) }
+{
+    let mut out = before;
+    let mut rest = ahead;
+    while is_at_mark(&rest, b',') {
+        let (item, after) = read_after_comma(alloc, rest)?;
+        out.push(item)?;
+        rest = after;
+    }
+    Ok((out, rest))
+}
+
+/// `x, ..` and the closing mark.
+#[tactic(auto, unfolding(crate::specs::Read::items_at))]
+pub(crate) fn read_list<'a, T: Part>(
+    alloc: Global,
+    ahead: Ahead<'a>,
+    close: u8,
+) -> Reading<'a, List<T>>
+    requires { Shrinks T.reading }
+    ensures { Gives result (list_at close T.reading ahead.entry) }
+{
+    let mut out = List::new(alloc);
+    if is_at_mark(&ahead, close) {
+        let (_, rest) = expect_mark(ahead, close)?;
+        return Ok((out, rest));
+    }
+    let (first, rest) = T::read(alloc, ahead)?;
+    out.push(first)?;
+    let (out, rest) = read_more(alloc, out, rest)?;
+    let (_, rest) = expect_mark(rest, close)?;
+    Ok((out, rest))
+}
