@@ -19,7 +19,7 @@ use Rattle.ir_core.specs.declared.module.Module.{Module}
 use Rattle.ir_core.specs.declared.module.Function.{Function}
 use Rattle.ir_core.specs.declared.module.Param.{Param}
 use Rattle.ir_core.specs.declared.module.Block.{Block}
-use Rattle.ir_core.specs.Tokens.{Lexeme, Token, Local, Global, Label, Number, Lexes, lexemes}
+use Rattle.ir_core.specs.Tokens.{Lexeme, Token, Local, Global, Label, Number, Lexes, lexemes, text_limit}
 use Rattle.ir_core.specs.Numbers.{is_number_in_range, kept_at}
 use Rattle.ir_core.specs.Spell.{Spell, done, one, ◌>>=◌, any, many, IsWordIn, IsWord, word, mark, with_line, list_to}
 
@@ -272,6 +272,6 @@ functions_to_end = do
   functions ← many (any function_of)
   done (of_functions functions)
 
--- the bytes spell the module
+-- the bytes spell the module; no byte behind the limit is looked at
 abbrev pub Reads : List ℕ → Module → Type 0
-Reads text m = (ts : List Token) × Lexes text ts × functions_to_end (lexemes text ts) m
+Reads text m = (ts : List Token) × Lexes text ts × functions_to_end (lexemes (take text_limit text) ts) m

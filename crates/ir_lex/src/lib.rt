@@ -10,6 +10,7 @@ mod scan;
 mod tests;
 mod token;
 
+pub use limit::front;
 pub use token::{Token, TokenKind};
 
 ghost use Rattle.std.specs.Prelude.{List as SpecList, ℕ, ◌≡◌, IfOk};
@@ -18,7 +19,7 @@ ghost use Rattle.ir_core.specs.Tokens.{Lexes};
 ghost use Rattle.ir_lex.specs.Seen.{tokens_seen};
 
 use ir_core::{List, OutOfMemory};
-use limit::{front, text_limit, with_past};
+use limit::{text_limit, with_past};
 use read::read_all;
 use std::alloc::Global;
 
@@ -27,9 +28,8 @@ use std::alloc::Global;
 pub fn lex(alloc: Global, text: &[u8]) -> Result<List<Token>, OutOfMemory>
     ensures { IfOk result (λ v. Lexes text.now (tokens_seen v)) }
 {
-    let limit = text_limit();
-    let read = read_all(alloc, front(text, limit as usize))?;
-    with_past(text, limit, read)
+    let read = read_all(alloc, front(text))?;
+    with_past(text, text_limit(), read)
 }
 
 /// A text has no two lists of tokens.

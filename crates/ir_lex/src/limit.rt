@@ -16,11 +16,12 @@ pub fn text_limit() -> u32
     4_194_304
 }
 
-/// The text, or its first bytes up to the limit.
-pub fn front(text: &[u8], limit: usize) -> &[u8]
-    ensures value { result.now ≡ take limit text.now }
-    ensures within { length result.now ≤ limit }
+/// The text, or its first bytes up to the limit of 4,194,304. No other byte is looked at.
+pub fn front(text: &[u8]) -> &[u8]
+    ensures value { result.now ≡ take text_limit text.now }
+    ensures within { length result.now ≤ text_limit }
 {
+    let limit = text_limit() as usize;
     if text.len() <= limit {
         text
     } else {

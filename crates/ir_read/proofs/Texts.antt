@@ -1,9 +1,9 @@
 -- What texts spell, of which no two have the same bytes.
-use Rattle.std.proofs.Common.{◌≡◌, ℕ, List, [], ◌∷◌, Result, Ok, Err, refl, sym, ap, ◌∙◌, subst}
+use Rattle.std.proofs.Common.{◌≡◌, ℕ, List, [], ◌∷◌, take, Result, Ok, Err, refl, sym, ap, ◌∙◌, subst}
 use Rattle.ir_core.specs.declared.answers.Or.{Or}
 use Rattle.ir_core.specs.declared.answers.Or.TheVariants.{Refused, Memory}
 use Rattle.ir_core.specs.declared.module.Module.{Module}
-use Rattle.ir_core.specs.Tokens.{Lexeme, Token, Lexes, lexemes}
+use Rattle.ir_core.specs.Tokens.{Lexeme, Token, Lexes, lexemes, text_limit}
 use Rattle.ir_core.specs.Spell.{SameNext, IsFirstRefused}
 use Rattle.ir_core.specs.Grammar.{functions_to_end, Reads}
 use Rattle.ir_read.specs.Read.{Fails}
@@ -30,11 +30,11 @@ refused_none : (ts : List Lexeme) (left : ℕ) → IsFirstRefused functions_to_e
 refused_none ts left r m s = r.no_text r.rest m (same_next r.rest) (subst (λ l. functions_to_end l m) r.is s)
 
 -- whatever a text spells its tokens spell
-tokens_spell : (text : List ℕ) (ts : List Token) → Lexes text ts → (m : Module) → Reads text m → functions_to_end (lexemes text ts) m
-tokens_spell text ts h m r = subst (λ l. functions_to_end (lexemes text l) m) (one_list text r.0 ts r.1 h) r.2
+tokens_spell : (text : List ℕ) (ts : List Token) → Lexes text ts → (m : Module) → Reads text m → functions_to_end (lexemes (take text_limit text) ts) m
+tokens_spell text ts h m r = subst (λ l. functions_to_end (lexemes (take text_limit text) l) m) (one_list text r.0 ts r.1 h) r.2
 
-pub text_refused : (text : List ℕ) (ts : List Token) (ahead : List Lexeme) (left : ℕ) → Lexes text ts → ahead ≡ lexemes text ts → IsFirstRefused functions_to_end ahead left → (m : Module) → Reads text m → ⊥
-text_refused text ts ahead left h e r m s = refused_none (lexemes text ts) left (subst (λ l. IsFirstRefused functions_to_end l left) e r) m (tokens_spell text ts h m s)
+pub text_refused : (text : List ℕ) (ts : List Token) (ahead : List Lexeme) (left : ℕ) → Lexes text ts → ahead ≡ lexemes (take text_limit text) ts → IsFirstRefused functions_to_end ahead left → (m : Module) → Reads text m → ⊥
+text_refused text ts ahead left h e r m s = refused_none (lexemes (take text_limit text) ts) left (subst (λ l. IsFirstRefused functions_to_end l left) e r) m (tokens_spell text ts h m s)
 
 pub one_text : (text : List ℕ) (a b : Module) → Reads text a → Reads text b → a ≡ b
-one_text text a b p q = one_spelled (lexemes text p.0) a b p.2 (tokens_spell text p.0 p.1 b q)
+one_text text a b p q = one_spelled (lexemes (take text_limit text) p.0) a b p.2 (tokens_spell text p.0 p.1 b q)
