@@ -1,0 +1,82 @@
+-- What the program answers: to its words, and to the text of a module.
+use Rattle.std.specs.Prelude.{◌≡◌, ◌⊎◌, ℕ, List, [], ◌∷◌, ◌++◌, codes, Option, Some, None, map, string_bytes, IfSome, if◌then◌else◌}
+use Rattle.std.specs.Str.{bytes_eq}
+use Rattle.std.specs.declared.string.String.{String}
+use Rattle.std.specs.declared.alloc.Global.{Global}
+use Rattle.ir_core.specs.declared.module.Module.{Module}
+use Rattle.ir_core.specs.Grammar.{Reads}
+use Rattle.ir_core.specs.FirstForm.{HasFirstForm}
+use Rattle.ir_core.specs.MachineOff.{machine_off, Remarks}
+use Rattle.ir_core.specs.Text.{Text}
+use Rattle.ir_core.specs.Notes.{refusal_text, remarks_text}
+use Rattle.ir_core.specs.Refusals.{not_built}
+use Rattle.opt_core.specs.Outside.{Rose, Grows, GrowsByFront}
+
+-- ---- words
+
+abbrev pub texts : List (String Global) → List (List ℕ)
+texts words = map string_bytes words
+
+-- the file that the words name: they are opt and one word
+abbrev pub path_of : List (List ℕ) → Option (List ℕ)
+path_of (command ∷ path ∷ []) = if bytes_eq command (codes "opt") then Some path else None
+path_of _ = None
+
+-- ---- replies: a status, and what is to be written on the output and on the notes
+
+abbrev pub IsBadWords : ℕ → List ℕ → List ℕ → Type 0
+IsBadWords status out notes = (status ≡ 2) × (out ≡ []) × (notes ≡ codes "ompopt: bad command line\n")
+
+abbrev pub IsInputFailed : ℕ → List ℕ → List ℕ → Type 0
+IsInputFailed status out notes = (status ≡ 5) × (out ≡ []) × (notes ≡ codes "ompopt: input failed\n")
+
+abbrev pub IsOutOfMemory : ℕ → List ℕ → List ℕ → Type 0
+IsOutOfMemory status out notes = (status ≡ 7) × (out ≡ []) × (notes ≡ codes "ompopt: out of memory\n")
+
+-- the text spells this module, which has the form that is taken by now
+abbrev pub Accepts : List ℕ → Module → Type 0
+Accepts text m = Reads text m × HasFirstForm m
+
+-- the module with its machine off, and the remark on it
+abbrev pub IsOptimised : List ℕ → ℕ → List ℕ → List ℕ → Type 0
+IsOptimised text status out notes = (m : Module) × Accepts text m × (status ≡ 0) × (out ≡ Text (machine_off m)) × (notes ≡ remarks_text (Remarks m))
+
+abbrev pub IsRefused : List ℕ → ℕ → List ℕ → List ℕ → Type 0
+IsRefused text status out notes = ((m : Module) → Accepts text m → ⊥) × (status ≡ 3) × (out ≡ []) × (notes ≡ refusal_text not_built ++ codes "\n")
+
+abbrev pub IsTextReply : List ℕ → ℕ → List ℕ → List ℕ → Type 0
+IsTextReply text status out notes = IsOptimised text status out notes ⊎ IsRefused text status out notes
+
+-- the reply to a file, of which the text is told or not
+abbrev pub IsFileReply : Option (List ℕ) → ℕ → List ℕ → List ℕ → Type 0
+IsFileReply None status out notes = (text : List ℕ) × IsTextReply text status out notes
+IsFileReply (Some text) status out notes = IsTextReply text status out notes
+
+-- the reply to the words; for want of memory there may be another in its place, and where a file's input fails
+abbrev pub IsReply : Option (List ℕ) → (List ℕ → Option (List ℕ)) → ℕ → List ℕ → List ℕ → Type 0
+IsReply None held status out notes = IsBadWords status out notes ⊎ IsOutOfMemory status out notes
+IsReply (Some path) held status out notes = IsFileReply (held path) status out notes ⊎ IsInputFailed status out notes ⊎ IsOutOfMemory status out notes
+
+-- ---- what is written
+
+-- the reply is written whole; or the status is 6, and a front of the output or, behind the whole output, of the notes is written
+abbrev pub IsWritten : ℕ → ℕ → List ℕ → List ℕ → (out out' notes notes' : Option (List ℕ)) → Type 0
+IsWritten status replied o n out out' notes notes' =
+    ((status ≡ replied) × Grows out out' o × Grows notes notes' n)
+    ⊎ ((status ≡ 6) × GrowsByFront out out' o × Grows notes notes' [])
+    ⊎ ((status ≡ 6) × Grows out out' o × GrowsByFront notes notes' n)
+
+-- what the sinks have taken at this status
+abbrev pub IsTold : Option (List ℕ) → (List ℕ → Option (List ℕ)) → (out out' notes notes' : Option (List ℕ)) → ℕ → Type 0
+IsTold path held out out' notes notes' status =
+    (replied : ℕ) × (o n : List ℕ) × IsReply path held replied o n × IsWritten status replied o n out out' notes notes'
+
+-- the count of the file that the words name has risen
+abbrev pub HasRisen : Option (List ℕ) → (List ℕ → ℕ) → (List ℕ → ℕ) → Type 0
+HasRisen None before after = ⊥
+HasRisen (Some path) before after = Rose (before path) (after path)
+
+-- the bytes under the path, where they are told, spell no module that is taken
+abbrev pub IsNotTaken : Option (List ℕ) → (List ℕ → Option (List ℕ)) → Type 0
+IsNotTaken None held = ⊥
+IsNotTaken (Some path) held = IfSome (held path) (λ text. (m : Module) → Accepts text m → ⊥)

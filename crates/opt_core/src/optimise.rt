@@ -1,0 +1,31 @@
+//! The optimiser. By now it switches off the machine of a kernel without a region.
+ghost use Rattle.std.specs.Prelude.{◌≡◌, IfOk};
+ghost use Rattle.ir_core.specs.FirstForm.{HasOutForm};
+ghost use Rattle.opt_core.specs.Optimised.{IsOptimisedModule};
+
+use crate::machine_off::machine_off;
+use crate::remarks::{init_lines, modes_at, remarks_at};
+use ir_core::{Checked, List, Mode, OutModule, OutOfMemory, Remark};
+use std::alloc::Global;
+
+/// The optimised module, how each of its kernels runs in the order of the text, and the remarks in their order.
+#[derive(Drop)]
+pub struct Optimised {
+    pub module: OutModule,
+    pub modes: List<Mode>,
+    pub remarks: List<Remark>,
+}
+
+/// The module, optimised. It refuses nothing.
+pub fn optimise(alloc: Global, m: &Checked) -> Result<Optimised, OutOfMemory>
+    ensures { IfOk result (λ o. IsOptimisedModule m.now o) }
+{
+    let source = m.module();
+    let lines = init_lines(alloc, source)?;
+    let out = machine_off(alloc, source)?;
+    Ok(Optimised {
+        module: OutModule::new(out),
+        modes: modes_at(alloc, lines.as_slice())?,
+        remarks: remarks_at(alloc, lines.as_slice())?,
+    })
+}
