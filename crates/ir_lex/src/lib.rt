@@ -10,8 +10,6 @@ mod scan;
 mod tests;
 mod token;
 
-pub use token::{Token, TokenKind};
-
 ghost use Rattle.std.specs.Prelude.{List as SpecList, ℕ, ◌≡◌, IfOk};
 ghost use Rattle.ir_core.specs.Tokens as meaning;
 ghost use Rattle.ir_core.specs.Tokens.{Lexes};
@@ -21,6 +19,7 @@ use ir_core::{List, OutOfMemory};
 use limit::{front, text_limit, with_past};
 use read::read_all;
 use std::alloc::Global;
+pub use token::{Token, TokenKind};
 
 /// The tokens of the text, in order. They end at the first byte that begins none, with a token `Bad`.
 /// A text above the limit ends with a token `Past` behind the tokens up to there, unless a `Bad` has ended them.

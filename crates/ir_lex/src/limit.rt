@@ -35,7 +35,11 @@ pub fn with_past(text: &[u8], limit: u32, read: Read) -> Result<List<Token>, Out
     requires is_read { IsRead (take limit text.now) read }
     ensures { IfOk result (λ v. Lexes text.now (tokens_seen v)) }
 {
-    let Read { mut tokens, bad, line } = read;
+    let Read {
+        mut tokens,
+        bad,
+        line,
+    } = read;
     if text.len() <= limit as usize {
         return Ok(tokens);
     }
