@@ -4,7 +4,7 @@ use Rattle.std.proofs.lemmas.List.{append-nil, drop-drop, take-append-drop, leng
 use Rattle.std.proofs.lemmas.Bool.{eqb-true, eq-eqb, ltb-true, lt-ltb}
 use Rattle.ir_core.specs.Bytes.{Class, Blank, Semicolon, Bracket, Digit, Dash, Letter, Percent, AtSign, Colon, Other, class_of, is_word_class, is_digit_class, word_byte, digit_byte, no_line_end, every}
 use Rattle.ir_core.specs.Tokens.{TokenKind, Word, Local, Global, Label, Number, Mark, Bad, Past, Token, Led, Nothing, Each, IsDigits, IsNumber, IsWord, IsWordOrDigits, Is, Piece, IsLongest, BeginsNone, IsBad, Pieces, line_ends, line_at, kept, tokens_from, is_bad_kind, has_bad}
-use Rattle.ir_core.specs.Scan.{run, class_at, piece, bad_piece, is_number_tail, stem_size, name_size, by_colon, by_name, word_piece, digits_piece, by_tail, by_class, piece_at, is_gap, Reads, ReadsAll}
+use Rattle.ir_core.specs.Scan.{run, class_at, piece, bad_piece, is_number_tail, stem_size, name_size, by_colon, by_name, by_tail, by_class, piece_at, Reads, ReadsAll}
 
 -- ---- runs of bytes
 

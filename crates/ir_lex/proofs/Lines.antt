@@ -1,5 +1,5 @@
 -- Where a search for a line end stops.
-use Rattle.std.proofs.Common.{◌≡◌, ℕ, ◌<◌, List, length, get_or, Bool, true, false, cond, Option, Some, None, refl, sym, ◌∙◌, ap, arith, ◌==◌}
+use Rattle.std.proofs.Common.{◌≡◌, ℕ, List, length, get_or, Bool, true, false, cond, Some, None, refl, ap, arith, ◌==◌}
 use Rattle.memchr.specs.Find.{IsFirstByte, is_byte}
 use Rattle.ir_core.specs.Bytes.{no_line_end}
 use Rattle.ir_core.specs.Scan.{run}

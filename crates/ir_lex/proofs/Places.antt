@@ -1,13 +1,13 @@
 -- From one place to the next.
-use Rattle.std.proofs.Common.{◌≡◌, ℕ, ◌+◌, ◌-◌, ◌<◌, ◌≤◌, List, [], ◌∷◌, ◌++◌, length, take, drop, get_or, Bool, true, false, cond, refl, sym, ◌∙◌, ap, subst, arith, ◌==◌}
+use Rattle.std.proofs.Common.{◌≡◌, ℕ, ◌+◌, ◌-◌, ◌≤◌, List, [], length, take, drop, get_or, false, cond, refl, sym, ◌∙◌, ap, subst, arith, ◌==◌}
 use Rattle.std.proofs.lemmas.List.{take_rest}
 use Rattle.ir_core.specs.Bytes as bytes
 use Rattle.ir_core.specs.Bytes.{no_line_end}
 use Rattle.ir_core.specs.Tokens.{line_at}
 use Rattle.ir_core.specs.Scan.{run, class_at, is_gap, Reads}
-use Rattle.ir_core.proofs.Lexing.{run_inside, comment_reads, comment_some, comment_line, reads_none, reads_then, blank_reads, blank_line, class_inside, line_small}
+use Rattle.ir_core.proofs.Lexing.{run_inside, comment_reads, comment_line, reads_none, reads_then, blank_reads, blank_line, class_inside}
 use Rattle.ir_lex.specs.declared.gaps.Place.{Place}
-use Rattle.ir_lex.specs.Scanned.{IsPlace, IsGap, BeginsToken}
+use Rattle.ir_lex.specs.Scanned.{IsPlace, IsGap}
 
 pub comment_gap : (text : List ℕ) (start : Place) (n : ℕ) → IsPlace text start → class_at (drop start.at text) ≡ bytes.Semicolon → n ≡ run no_line_end (take (length text - start.at) (drop start.at text)) → IsGap text start (record { at = start.at + n; line = start.line })
 comment_gap text start n p e h =

@@ -1,14 +1,13 @@
 -- One token more, the last of them, and a bad one.
-use Rattle.std.proofs.Common.{◌≡◌, ℕ, ◌+◌, ◌≤◌, ◌<◌, List, [], ◌∷◌, ◌++◌, length, map, drop, Option, Some, Bool, true, false, cond, refl, sym, ◌∙◌, ap, subst, arith}
+use Rattle.std.proofs.Common.{◌≡◌, ℕ, ◌+◌, ◌≤◌, ◌<◌, List, [], ◌∷◌, ◌++◌, length, drop, Some, Bool, true, false, cond, refl, sym, ◌∙◌, ap, subst, arith}
 use Rattle.std.proofs.lemmas.List.{map-append, append-nil}
 use Rattle.ir_core.specs.Tokens as meaning
 use Rattle.ir_core.specs.Tokens.{line_at, kept, has_bad, is_bad_kind}
 use Rattle.ir_core.specs.Scan.{piece_at, Reads, ReadsAll}
-use Rattle.ir_core.proofs.Lexing.{reads_none, reads_then, reads_here, bad_here, size_fits_at, token_line, reads_all, reads_to_bad, has_bad-append}
+use Rattle.ir_core.proofs.Lexing.{reads_then, reads_here, bad_here, size_fits_at, token_line, reads_all, reads_to_bad, has_bad-append}
 use Rattle.ir_lex.specs.declared.gaps.Place.{Place}
 use Rattle.ir_lex.specs.declared.scan.Piece.{Piece}
 use Rattle.ir_lex.specs.declared.token.Token.{Token}
-use Rattle.ir_lex.specs.declared.read.Read.{Read}
 use Rattle.ir_lex.specs.Seen.{kind_seen, token_seen, tokens_seen}
 use Rattle.ir_lex.specs.Scanned.{piece_seen, IsPlace, IsGap, BeginsToken, SoFar, IsRead}
 

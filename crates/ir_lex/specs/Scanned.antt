@@ -1,5 +1,5 @@
 -- Classes, pieces and places of the code, as the definitions see them.
-use Rattle.std.specs.Prelude.{◌≡◌, ℕ, ◌≤◌, List, [], length, drop, Some, Bool, true, false}
+use Rattle.std.specs.Prelude.{◌≡◌, ℕ, ◌≤◌, List, [], length, drop, Some, false}
 use Rattle.ir_core.specs.Bytes as bytes
 use Rattle.ir_core.specs.Tokens as meaning
 use Rattle.ir_core.specs.Tokens.{line_at, has_bad}

@@ -20,6 +20,7 @@ pub enum Class {
 }
 
 /// The class of a byte.
+#[inline(always)]
 pub fn byte_class(byte: u8) -> Class
     ensures { class_seen result ≡ class_of byte }
 {
@@ -40,6 +41,7 @@ pub fn byte_class(byte: u8) -> Class
 }
 
 /// Whether the byte can stand in a word.
+#[inline]
 pub fn is_word_byte(byte: u8) -> bool
     ensures { result ≡ word_byte byte }
 {
@@ -47,6 +49,7 @@ pub fn is_word_byte(byte: u8) -> bool
 }
 
 /// Whether the byte is a digit.
+#[inline]
 pub fn is_digit_byte(byte: u8) -> bool
     ensures { result ≡ digit_byte byte }
 {
@@ -54,6 +57,7 @@ pub fn is_digit_byte(byte: u8) -> bool
 }
 
 /// The class of the byte at a place; behind the end, of one that begins nothing.
+#[inline(always)]
 pub fn class_at(text: &[u8], at: usize) -> Class
     ensures { class_seen result ≡ class_at (drop at text.now) }
 {

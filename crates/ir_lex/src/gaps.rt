@@ -47,6 +47,7 @@ fn line_after(byte: u8, line: u32) -> u32
 }
 
 /// Whether a blank stands at a place.
+#[inline]
 fn is_blank_at(text: &[u8], at: usize) -> bool
     ensures { IsTrue result ↔ (class_at (drop at text.now) ≡ BlankByte) }
 {

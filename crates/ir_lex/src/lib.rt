@@ -10,26 +10,32 @@ mod scan;
 mod tests;
 mod token;
 
-pub use limit::front;
-pub use token::{Token, TokenKind};
-
-ghost use Rattle.std.specs.Prelude.{List as SpecList, ℕ, ◌≡◌, IfOk};
+ghost use Rattle.std.specs.Prelude.{List as SpecList, ℕ, ◌≡◌, take, IfOk};
 ghost use Rattle.ir_core.specs.Tokens as meaning;
-ghost use Rattle.ir_core.specs.Tokens.{Lexes};
+ghost use Rattle.ir_core.specs.Tokens.{Lexes, text_limit};
 ghost use Rattle.ir_lex.specs.Seen.{tokens_seen};
 
 use ir_core::{List, OutOfMemory};
-use limit::{text_limit, with_past};
+use limit::{front, text_limit, with_past};
 use read::read_all;
 use std::alloc::Global;
+pub use token::{Token, TokenKind};
+
+/// The bytes of the text that are looked at: all of them, or the first 4,194,304.
+pub fn looked_at(text: &[u8]) -> &[u8]
+    ensures { result.now ≡ take text_limit text.now }
+{
+    front(text, text_limit() as usize)
+}
 
 /// The tokens of the text, in order. They end at the first byte that begins none, with a token `Bad`.
 /// A text above the limit ends with a token `Past` behind the tokens up to there, unless a `Bad` has ended them.
 pub fn lex(alloc: Global, text: &[u8]) -> Result<List<Token>, OutOfMemory>
     ensures { IfOk result (λ v. Lexes text.now (tokens_seen v)) }
 {
-    let read = read_all(alloc, front(text))?;
-    with_past(text, text_limit(), read)
+    let limit = text_limit();
+    let read = read_all(alloc, front(text, limit as usize))?;
+    with_past(text, limit, read)
 }
 
 /// A text has no two lists of tokens.

@@ -16,12 +16,11 @@ pub fn text_limit() -> u32
     4_194_304
 }
 
-/// The text, or its first bytes up to the limit of 4,194,304. No other byte is looked at.
-pub fn front(text: &[u8]) -> &[u8]
-    ensures value { result.now ≡ take text_limit text.now }
-    ensures within { length result.now ≤ text_limit }
+/// The text, or its first bytes up to the limit.
+pub fn front(text: &[u8], limit: usize) -> &[u8]
+    ensures value { result.now ≡ take limit text.now }
+    ensures within { length result.now ≤ limit }
 {
-    let limit = text_limit() as usize;
     if text.len() <= limit {
         text
     } else {
@@ -36,7 +35,11 @@ pub fn with_past(text: &[u8], limit: u32, read: Read) -> Result<List<Token>, Out
     requires is_read { IsRead (take limit text.now) read }
     ensures { IfOk result (λ v. Lexes text.now (tokens_seen v)) }
 {
-    let Read { mut tokens, bad, line } = read;
+    let Read {
+        mut tokens,
+        bad,
+        line,
+    } = read;
     if text.len() <= limit as usize {
         return Ok(tokens);
     }

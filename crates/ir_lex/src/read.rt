@@ -45,9 +45,17 @@ pub fn read_all(alloc: Global, text: &[u8]) -> Result<Read, OutOfMemory>
         })?;
         let line = place.line;
         if is_bad(piece.kind) {
-            return Ok(Read { tokens, bad: true, line });
+            return Ok(Read {
+                tokens,
+                bad: true,
+                line,
+            });
         }
         place = skip_gaps(text, Place { at: end, line });
     }
-    Ok(Read { tokens, bad: false, line: place.line })
+    Ok(Read {
+        tokens,
+        bad: false,
+        line: place.line,
+    })
 }

@@ -30,8 +30,18 @@ fn kinds_sizes_and_lines(rt: HostRuntime) {
     ];
     for (text, want) in table {
         let mut found = String::new(rt.alloc());
-        for token in lex(rt.alloc(), text.as_bytes()).expect(&rt, "memory").as_slice() {
-            write!(found, "{}{}@{} ", letter(token.kind), token.end - token.start, token.line).expect(&rt, "memory");
+        for token in lex(rt.alloc(), text.as_bytes())
+            .expect(&rt, "memory")
+            .as_slice()
+        {
+            write!(
+                found,
+                "{}{}@{} ",
+                letter(token.kind),
+                token.end.saturating_sub(token.start),
+                token.line
+            )
+            .expect(&rt, "memory");
         }
         assert_eq!(rt; found.as_str(), want, "at {text}");
     }

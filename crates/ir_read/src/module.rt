@@ -10,7 +10,7 @@ use crate::ahead::Ahead;
 use crate::repeated::read_many;
 use crate::tokens::Reading;
 use ir_core::{Construct, Function, List, Module, Or, Refusal};
-use ir_lex::{front, lex};
+use ir_lex::{lex, looked_at};
 use std::alloc::Global;
 
 /// Functions, one after another.
@@ -55,7 +55,7 @@ pub fn read_module(alloc: Global, text: &[u8]) -> Result<Module, Or<Refusal>>
     ensures refused { IfErr result (λ e. IsReadRefusal text.now e) }
 {
     let tokens = lex(alloc, text)?;
-    match read_tokens(alloc, Ahead::new(front(text), tokens.as_slice())) {
+    match read_tokens(alloc, Ahead::new(looked_at(text), tokens.as_slice())) {
         Ok(module) => Ok(module),
         Err(Or::Refused(_)) => Err(Or::Refused(Refusal {
             construct: Construct::NotBuilt,
