@@ -1,22 +1,8 @@
 //! The text of names.
 ghost use Rattle.std.specs.Prelude.{◌≡◌, ◌++◌, ◌<◌, OnOk};
 ghost use Rattle.std.specs.List.{flat_map};
-ghost use Rattle.ir_core.specs.Bytes.{digit_byte, word_byte, every, class_of};
-ghost use Rattle.ir_core.specs.Text.{
-  is_digits,
-  is_exponent,
-  is_behind_point,
-  is_numeral,
-  is_word,
-  hex_digit,
-  is_plain_byte,
-  escaped,
-  quoted,
-  name_text,
-  local_text,
-  global_name_text,
-  target_text,
-};
+ghost use Rattle.ir_core.specs.Bytes.{digit_byte, word_byte, every};
+ghost use Rattle.ir_core.specs.Text.{is_digits, is_exponent, is_behind_point, is_numeral, is_word, hex_digit, is_plain_byte, escaped, quoted, name_text, local_text, global_name_text, target_text};
 
 use crate::writer::Writer;
 use ir_core::{Name, OutOfMemory};
