@@ -1,17 +1,7 @@
 //! The text of functions.
-ghost use Rattle.std.specs.Prelude.{◌≡◌, [], ◌++◌, codes, map, OnOk};
+ghost use Rattle.std.specs.Prelude.{◌≡◌, ◌++◌, codes, map, OnOk};
 ghost use Rattle.std.specs.List.{flat_map};
-ghost use Rattle.ir_core.specs.Text.{
-  all_led,
-  comma_list,
-  spaced_words,
-  type_text,
-  global_name_text,
-  block_text,
-  param_text,
-  param_type_text,
-  function_text,
-};
+ghost use Rattle.ir_core.specs.Text.{comma_list, block_text, param_text, param_type_text, function_text};
 ghost use Rattle.ir_print.specs.Parts.{declaration_text, definition_heading, definition_text, heading_start, heading_end};
 
 use crate::names::{write_global_name, write_local, write_name};

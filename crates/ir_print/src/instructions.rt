@@ -1,28 +1,6 @@
 //! The text of instructions.
 ghost use Rattle.std.specs.Prelude.{◌≡◌, ◌++◌, codes, map, OnOk};
-ghost use Rattle.ir_core.specs.Text.{
-  all_led,
-  comma_list,
-  in_spaces,
-  type_text,
-  value_text,
-  typed_text,
-  typed_texts,
-  target_text,
-  edge_text,
-  case_text,
-  word_if,
-  flags_text,
-  align_text,
-  atomic_text,
-  ordering_text,
-  order_text,
-  returned_text,
-  result_text,
-  kind_text,
-  inst_text,
-  local_text,
-};
+ghost use Rattle.ir_core.specs.Text.{all_led, comma_list, type_text, value_text, typed_text, typed_texts, edge_text, case_text, flags_text, align_text, ordering_text, result_text, kind_text, inst_text};
 
 use crate::names::{write_local, write_target};
 use crate::operands::write_value;

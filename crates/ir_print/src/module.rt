@@ -1,15 +1,6 @@
 //! The text of modules, their types and their globals.
 ghost use Rattle.std.specs.Prelude.{◌≡◌, ◌++◌, codes, map, OnOk, IfOk};
-ghost use Rattle.ir_core.specs.Text.{
-  Text,
-  all_led,
-  in_spaces,
-  init_text,
-  initial_text,
-  type_def_text,
-  global_text,
-  type_text,
-};
+ghost use Rattle.ir_core.specs.Text.{Text, in_spaces, init_text, initial_text, type_def_text, global_text};
 ghost use Rattle.ir_print.specs.Parts.{element_text, global_start};
 
 use crate::instructions::write_align;

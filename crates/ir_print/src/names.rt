@@ -1,16 +1,7 @@
 //! The text of names.
 ghost use Rattle.std.specs.Prelude.{◌≡◌, ◌++◌, ◌<◌, OnOk};
 ghost use Rattle.std.specs.List.{flat_map};
-ghost use Rattle.ir_core.specs.Text.{
-  hex_digit,
-  is_plain_byte,
-  escaped,
-  quoted,
-  name_text,
-  local_text,
-  global_name_text,
-  target_text,
-};
+ghost use Rattle.ir_core.specs.Text.{hex_digit, is_plain_byte, escaped, quoted, name_text, local_text, global_name_text, target_text};
 
 use crate::writer::Writer;
 use ir_core::{Name, OutOfMemory, is_word};

@@ -1,12 +1,6 @@
 //! The text of operands.
-ghost use Rattle.std.specs.Prelude.{◌≡◌, ℕ, ◌++◌, ◌^◌, codes, decimal, nat_lt, if◌then◌else◌, List as Listed, OnOk, MatchOption};
-ghost use Rattle.ir_core.specs.Text.{
-  truth_text,
-  integer_text,
-  number_text,
-  value_text,
-  typed_text,
-};
+ghost use Rattle.std.specs.Prelude.{◌≡◌, ◌++◌, codes, decimal, OnOk, MatchOption};
+ghost use Rattle.ir_core.specs.Text.{integer_text, number_text, value_text, typed_text};
 ghost use Rattle.ir_print.specs.Signed.{plain_or_signed};
 
 use crate::names::{write_global_name, write_local};

@@ -1,6 +1,6 @@
 //! The text of types.
 ghost use Rattle.std.specs.Prelude.{◌≡◌, ◌++◌, codes, map, OnOk};
-ghost use Rattle.ir_core.specs.Text.{type_text, all_led, in_spaces};
+ghost use Rattle.ir_core.specs.Text.{type_text, in_spaces};
 
 use crate::names::write_local;
 use crate::writer::Writer;

@@ -1,16 +1,6 @@
 //! The words of a text.
 ghost use Rattle.std.specs.Prelude.{◌≡◌, ◌++◌, codes};
-ghost use Rattle.ir_core.specs.Text.{
-  bin_op_text,
-  pred_text,
-  cast_text,
-  rmw_text,
-  order_text,
-  atomic_text,
-  word_if,
-  tail_text,
-  constness_text,
-};
+ghost use Rattle.ir_core.specs.Text.{bin_op_text, pred_text, cast_text, rmw_text, order_text, atomic_text, word_if, tail_text, constness_text};
 
 use ir_core::{BinOp, CastOp, Order, Pred, RmwOp, TailWord};
 
