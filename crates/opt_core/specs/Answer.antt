@@ -4,6 +4,9 @@ use Rattle.std.specs.Str.{bytes_eq}
 use Rattle.std.specs.declared.string.String.{String}
 use Rattle.std.specs.declared.alloc.Global.{Global}
 use Rattle.ir_core.specs.declared.module.Module.{Module}
+use Rattle.ir_core.specs.declared.answers.Or.{Or}
+use Rattle.ir_core.specs.declared.answers.Or.TheVariants.{Refused, Memory}
+use Rattle.ir_core.specs.declared.refusal.Refusal.{Refusal}
 use Rattle.ir_core.specs.Grammar.{Reads}
 use Rattle.ir_core.specs.FirstForm.{HasFirstForm}
 use Rattle.ir_core.specs.MachineOff.{machine_off, Remarks}
@@ -36,6 +39,11 @@ IsOutOfMemory status out notes = (status ≡ 7) × (out ≡ []) × (notes ≡ co
 -- the text spells this module, which has the form that is taken by now
 abbrev pub Accepts : List ℕ → Module → Type 0
 Accepts text m = Reads text m × HasFirstForm m
+
+-- the text spells no module that is taken, or memory ran out
+abbrev pub IsNotAccepted : List ℕ → Or Refusal → Type 0
+IsNotAccepted text (Refused r) = (r ≡ not_built) × ((m : Module) → Accepts text m → ⊥)
+IsNotAccepted text Memory = Unit {0}
 
 -- the module with its machine off, and the remark on it
 abbrev pub IsOptimised : List ℕ → ℕ → List ℕ → List ℕ → Type 0

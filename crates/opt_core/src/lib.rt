@@ -1,16 +1,23 @@
 //! The optimiser's top, and what it needs of the world outside: named inputs and sinks of bytes.
 #![tactic(auto)]
 
+mod machine_off;
 mod memory;
 #[cfg(test)]
 mod memory_tests;
+mod optimise;
 mod outside;
 mod real;
 #[cfg(test)]
 mod real_tests;
+mod remarks;
+mod reply;
+mod top;
 mod transfer;
 
 pub use memory::{NamedFile, SureInputs, SureSink};
+pub use optimise::{Optimised, optimise};
 pub use outside::{InputFailed, Inputs, Sink, SinkFailed};
 pub use real::{FileInputs, StreamSink};
+pub use top::opt_main;
 pub use transfer::{ReadFault, read_file, write_all};

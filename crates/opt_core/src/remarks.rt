@@ -110,12 +110,12 @@ fn write_remark(out: &mut Vec<u8>, remark: &Remark) -> Result<(), OutOfMemory>
 }
 
 /// The text of the remarks, a line each.
-pub fn print_remarks(alloc: Global, remarks: &[Remark]) -> Result<Vec<u8>, OutOfMemory>
-    ensures { IfOk result (λ text. text.items ≡ remarks_text remarks.now) }
+pub fn print_remarks(alloc: Global, remarks: &[Remark]) -> Result<List<u8>, OutOfMemory>
+    ensures { IfOk result (λ text. text ≡ remarks_text remarks.now) }
 {
     let mut out = Vec::new(alloc);
     for remark in remarks {
         write_remark(&mut out, remark)?;
     }
-    Ok(out)
+    Ok(List::from_vec(out))
 }
