@@ -7,7 +7,7 @@ use Rattle.ir_core.specs.Tokens.{Lexeme}
 use Rattle.ir_core.specs.Spell.{SameNext, many}
 use Rattle.ir_core.specs.Spell as G
 use Rattle.ir_read.specs.Read.{Read, then_read, ◌>>=◌, head, turn, turns, many_at, put_all, Shrinks, Fails}
-use Rattle.ir_read.proofs.Readers.{Taken, Halted, Reads, Free, same_front, same_head, ok_parts, ok_not_err, err_is, Begins, then_reads_where}
+use Rattle.ir_read.proofs.Readers.{Taken, Halted, Reads, Free, same_front, same_head, ok_parts, ok_not_err, err_is, Begins, then_reads_where, reads_before}
 
 -- ---- one after another
 abbrev pub Stops : (Option Lexeme → Bool) → List Lexeme → Type 0
@@ -94,10 +94,10 @@ module _ {X : Type 0} (p : Option Lexeme → Bool) (f : Read X) (shrinks : Shrin
     loop_fails Memory g k = tt
     loop_fails (Refused n) g k = so_far ∙ ap (put_all out) (many_fails rest n g k)
 
--- ---- what is repeated is read as it is spelled
-module _ {X : Type 0} (p : Option Lexeme → Bool) (f : Read X) (S : List Lexeme → X → Type 0) (r : Reads f S Free) (b : Begins S (λ t. p (Some t) ≡ true)) (ends : p None ≡ false) where
+-- ---- what is repeated is read as it is spelled, where the first token of an item can follow any item
+module _ {X : Type 0} (p : Option Lexeme → Bool) (f : Read X) (S : List Lexeme → X → Type 0) (F : List Lexeme → Type 0) (r : Reads f S F) (b : Begins S (λ t. p (Some t) ≡ true)) (ends : p None ≡ false) (follows : (ts : List Lexeme) → p (head ts) ≡ true → F ts) where
   abbrev shrinks : Shrinks f
-  shrinks = shrinks_by f S Free (λ t. p (Some t) ≡ true) r b
+  shrinks = shrinks_by f S F (λ t. p (Some t) ≡ true) r b
 
   abbrev step : (ts : List Lexeme) (x : X) (rest : List Lexeme) → p (head ts) ≡ true → f ts ≡ Ok (x, rest) → many_at p f ts ≡ put x (many_at p f rest)
   step = many_step p f shrinks ends
@@ -183,24 +183,34 @@ module _ {X : Type 0} (p : Option Lexeme → Bool) (f : Read X) (S : List Lexeme
   many_halts zero ts l n k = halts_by ts (λ after m. absurd (omega arith)) (p (head ts)) refl (f ts) refl n k
   many_halts (suc m) ts l n k = halts_by ts (λ after o. many_halts m after (omega arith)) (p (head ts)) refl (f ts) refl n k
 
-  many_only : (front rest : List Lexeme) (xs : List X) → many S front xs → Stops p rest → many_at p f (front ++ rest) ≡ Ok (xs, rest)
+  many_followed : (front rest : List Lexeme) (xs : List X) → many S front xs → F rest → F (front ++ rest)
+  many_followed front rest [] s k = subst (λ l. F (l ++ rest)) (sym s) k
+  many_followed front rest (x ∷ xs) s k =
+      let more = subst (λ l. p (head l) ≡ true) (sym (append_assoc s.0 s.1 rest)) (begins_on s.0 [] (s.1 ++ rest) x s.2) in
+      subst (λ l. F (l ++ rest)) (sym s.4) (follows ((s.0 ++ s.1) ++ rest) more)
+
+  many_only : (front rest : List Lexeme) (xs : List X) → many S front xs → Stops p rest → F rest → many_at p f (front ++ rest) ≡ Ok (xs, rest)
   unfolding put
-  many_only front rest [] s h = ap (λ (l : List Lexeme). many_at p f (l ++ rest)) s ∙ many_stops p f shrinks ends rest h
-  many_only front rest (x ∷ xs) s h =
+  many_only front rest [] s h k = ap (λ (l : List Lexeme). many_at p f (l ++ rest)) s ∙ many_stops p f shrinks ends rest h
+  many_only front rest (x ∷ xs) s h k =
       ap (λ (l : List Lexeme). many_at p f (l ++ rest)) s.4
       ∙ ap (many_at p f) (append_assoc s.0 s.1 rest)
-      ∙ step (s.0 ++ (s.1 ++ rest)) x (s.1 ++ rest) (begins_on s.0 [] (s.1 ++ rest) x s.2) (r.only s.0 (s.1 ++ rest) x s.2 tt)
-      ∙ ap (put x) (many_only s.1 rest xs s.3 h)
+      ∙ step (s.0 ++ (s.1 ++ rest)) x (s.1 ++ rest) (begins_on s.0 [] (s.1 ++ rest) x s.2) (r.only s.0 (s.1 ++ rest) x s.2 (many_followed s.1 rest xs s.3 k))
+      ∙ ap (put x) (many_only s.1 rest xs s.3 h k)
 
-  pub many_reads : Reads (many_at p f) (many S) (Stops p)
-  many_reads = record {
+  pub many_reads_where : Reads (many_at p f) (many S) (λ ts. Stops p ts × F ts)
+  many_reads_where = record {
     takes = λ ts xs rest e. many_takes (length ts) ts (omega arith) xs rest e;
     halts = λ ts n e. many_halts (length ts) ts (omega arith) n e;
-    only = many_only;
+    only = λ front rest xs s h. many_only front rest xs s h.0 h.1;
     some = [];
     value = [];
     spelled = refl;
   }
+
+-- where anything can follow an item
+pub many_reads : {X : Type 0} (p : Option Lexeme → Bool) (f : Read X) (S : List Lexeme → X → Type 0) → Reads f S Free → Begins S (λ t. p (Some t) ≡ true) → p None ≡ false → Reads (many_at p f) (many S) (Stops p)
+many_reads p f S r b ends = reads_before (Stops p) (λ ts h. (h, tt)) (many_reads_where p f S Free r b ends (λ ts h. tt))
 
 -- repeated, and then what never begins like one more
 pub many_then_reads : {X Y : Type 0} (p : Option Lexeme → Bool) {f : Read X} {S : List Lexeme → X → Type 0} {g : X → Read Y} {T : X → List Lexeme → Y → Type 0} {H : List Lexeme → Type 0} → Reads f S (Stops p) → ((xs : X) → Reads (g xs) (T xs) H) → ((xs : X) → Begins (T xs) (λ t. p (Some t) ≡ false)) → Reads (f >>= g) (G.◌>>=◌ S T) H
