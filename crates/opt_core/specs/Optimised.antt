@@ -4,7 +4,7 @@ use Rattle.ir_core.specs.declared.module.Module.{Module}
 use Rattle.ir_core.specs.declared.remark.Mode.{Mode}
 use Rattle.ir_core.specs.declared.remark.Mode.TheVariants.{Empty}
 use Rattle.ir_core.specs.MachineOff.{machine_off, init_lines, Remarks}
-use Rattle.opt_core.specs.declared.optimise.Optimised.{Optimised}
+use Rattle.opt_core.specs.declared.optimiser.Optimised.{Optimised}
 
 abbrev pub empty_mode : ℕ → Mode
 empty_mode line = Empty

@@ -5,7 +5,7 @@ mod machine_off;
 mod memory;
 #[cfg(test)]
 mod memory_tests;
-mod optimise;
+mod optimiser;
 mod outside;
 mod real;
 #[cfg(test)]
@@ -16,7 +16,7 @@ mod top;
 mod transfer;
 
 pub use memory::{NamedFile, SureInputs, SureSink};
-pub use optimise::{Optimised, optimise};
+pub use optimiser::{Optimised, optimise};
 pub use outside::{InputFailed, Inputs, Sink, SinkFailed};
 pub use real::{FileInputs, StreamSink};
 pub use top::opt_main;

@@ -5,7 +5,7 @@ ghost use Rattle.ir_core.specs.MachineOff.{machine_off, Remarks};
 ghost use Rattle.ir_core.specs.Notes.{refusal_text, remarks_text};
 ghost use Rattle.opt_core.specs.Answer.{Accepts, IsNotAccepted, IsTextReply};
 
-use crate::optimise::optimise;
+use crate::optimiser::optimise;
 use crate::remarks::print_remarks;
 use ir_check::check;
 use ir_core::{Checked, List, Or, OutOfMemory, Refusal};
