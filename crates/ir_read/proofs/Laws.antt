@@ -1,7 +1,7 @@
 -- Each reading function reads what the grammar spells.
-use Rattle.std.proofs.Common.{◌≡◌, ℕ, List, [], ◌∷◌, ◌++◌, codes, Option, Some, None, Bool, true, false, cond, Result, Ok, Err, refl, sym, ap, ◌∙◌, subst, inl, inr}
+use Rattle.std.proofs.Common.{◌≡◌, ℕ, List, [], ◌∷◌, ◌++◌, codes, Some, None, Bool, true, false, cond, Ok, Err, refl, sym, ap, ◌∙◌, subst, inl}
 use Rattle.ir_core.specs.declared.types.Ty.{Ty}
-use Rattle.ir_core.specs.declared.types.Ty.TheVariants.{Void, Int as IntTy, Ptr}
+use Rattle.ir_core.specs.declared.types.Ty.TheVariants.{Void, Int as IntTy}
 use Rattle.ir_core.specs.declared.instructions.Value.TheVariants.{Global as GlobalValue}
 use Rattle.ir_core.specs.declared.instructions.TailWord.TheVariants.{Absent as NoTailWord}
 use Rattle.ir_core.specs.declared.instructions.BinOp.{BinOp}
@@ -9,15 +9,15 @@ use Rattle.ir_core.specs.declared.instructions.BinOp.TheVariants.{Add}
 use Rattle.ir_core.specs.declared.instructions.Pred.TheVariants.{Eq}
 use Rattle.ir_core.specs.declared.instructions.Kind.TheVariants.{Bin, ICmp, Load, Store, Call, Br, CondBr, Ret}
 use Rattle.ir_core.specs.declared.module.Module.{Module}
-use Rattle.ir_core.specs.Tokens.{Lexeme, TokenKind, Word, Local, Label, Mark}
+use Rattle.ir_core.specs.Tokens.{Lexeme, TokenKind, Word}
 use Rattle.ir_core.specs.Spell.{IsFirstRefused, any, many, IsWord, IsWordIn, with_line, list_to}
 use Rattle.ir_core.specs.Spell as spell
 use Rattle.ir_core.specs.Grammar.{IsLocal, IsGlobal, IsLabel, IsValue, IsScalarType, IsResultType, scalar_types, result_types, typed, next_typed, next_value, target, next_target, call, no_flags, predicates, ValueForm, Binary, Compare, LoadForm, CallForm, value_words, value_of_form, value, PlainForm, Assigns, Stores, Calls, plain_words, plain_of, plain, BranchForm, Straight, Tested, branch_of, LastForm, Branches, Returns, last_words, last_of, block, param, numbered, body, FunctionForm, Defines, Declares, function_words, heading, function_of, of_functions, functions_to_end}
-use Rattle.ir_read.specs.Read.{Shrinks, one_at, goes, pick, many_at, whole, head, as_local, as_global, as_label, as_mark, as_word, as_table, with_line_of, is_mark, is_word, is_local, is_label, spells_word, look_up, list_at}
+use Rattle.ir_read.specs.Read.{Shrinks, one_at, goes, many_at, as_local, as_global, as_label, as_word, as_table, with_line_of, is_mark, is_word, is_local, is_label, look_up}
 use Rattle.ir_read.specs.Reading.{as_scalar_type, as_result_type, as_value, typed_at, next_typed_at, next_value_at, target_at, next_target_at, call_at, binary_at, compare_at, load_at, value_at_form, value_at, assignment_at, store_at, plain_call_at, plain_at_form, plain_form, plain_goes, plain_at, straight_at, tested_at, branch_at_form, branch_form, branch_at, last_branch_at, return_at, form_in, last_at_form, last_at, block_at, label_goes, param_at, body_at, heading_at, definition_at, declaration_at, function_at_form, function_form, function_goes, function_at, functions_at, module_at}
 use Rattle.ir_read.proofs.Readers.{Reads, Free, Begins, one_reads, done_reads, then_reads, pick_reads, one_begins, then_begins, any_begins, then_reads_where, reads_before}
 use Rattle.ir_read.proofs.Many.{Stops, shrinks_by, many_reads, many_then_reads}
-use Rattle.ir_read.proofs.Tests.{local_tests, global_tests, label_tests, word_tests, table_tests, lined_tests, is_spelled, not_spelled}
+use Rattle.ir_read.proofs.TokenTests.{local_tests, global_tests, label_tests, word_tests, table_tests, lined_tests, is_spelled, not_spelled}
 use Rattle.ir_read.proofs.Lists.{mark_reads, list_reads}
 use Rattle.ir_read.proofs.Values.{value_tests}
 use Rattle.ir_read.proofs.Whole.{whole_found, whole_refused, whole_only}

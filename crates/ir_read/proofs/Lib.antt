@@ -1,7 +1,7 @@
 pub mod Readers
 pub mod Many
 pub mod Whole
-pub mod Tests
+pub mod TokenTests
 pub mod Lists
 pub mod Values
 pub mod Digits

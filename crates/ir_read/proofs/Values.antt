@@ -1,16 +1,15 @@
 -- The tests of an operand are exact.
-use Rattle.std.proofs.Common.{◌≡◌, ℕ, List, [], ◌∷◌, codes, drop, Option, Some, None, true, false, cond, refl, sym, ap, ◌∙◌, subst, inl, inr, ◌⊎◌}
+use Rattle.std.proofs.Common.{◌≡◌, ℕ, List, [], drop, Some, None, cond, refl, sym, ap, ◌∙◌, subst, inl, inr}
 use Rattle.ir_core.specs.declared.types.Ty.{Ty}
 use Rattle.ir_core.specs.declared.instructions.Value.{Value}
 use Rattle.ir_core.specs.declared.instructions.Value.TheVariants.{Int as IntValue, Null, Local as Register, Global as GlobalValue}
 use Rattle.ir_core.specs.Tokens.{Lexeme, TokenKind, Word, Local, Global, Label, Number, Mark, Bad, Past}
-use Rattle.ir_core.specs.Spell.{InTable, IsWordIn, IsWord}
+use Rattle.ir_core.specs.Spell.{InTable}
 use Rattle.ir_core.specs.Numbers.{is_number_in_range, kept_at}
-use Rattle.ir_core.specs.Grammar.{IsLocal, IsGlobal, IsValue, truth_words}
-use Rattle.ir_read.specs.Read.{look_up, as_table}
+use Rattle.ir_core.specs.Grammar.{IsValue, truth_words}
 use Rattle.ir_read.specs.Reading.{literals, as_number, value_by, as_value}
 use Rattle.ir_read.proofs.Readers.{Tests}
-use Rattle.ir_read.proofs.Tests.{chosen_some, some_is, look_found, look_only}
+use Rattle.ir_read.proofs.TokenTests.{chosen_some, some_is, look_found, look_only}
 
 -- a literal is spelled by its word
 literal_is : (ty : Ty) (t : Lexeme) (v : Value) → t.kind ≡ Word → InTable literals t.bytes v → IsValue ty t v

@@ -1,5 +1,5 @@
 -- Reading the parts of a module from left to right, in the same steps as the grammar.
-use Rattle.std.specs.Prelude.{ℕ, List, [], ◌∷◌, ◌++◌, codes, drop, Bool, true, false, if◌then◌else◌}
+use Rattle.std.specs.Prelude.{ℕ, List, [], ◌∷◌, ◌++◌, codes, drop, Bool, false, if◌then◌else◌}
 use Rattle.std.specs.Prelude.{Option, Some as Present, None as Absent}
 use Rattle.ir_core.specs.declared.types.Ty.{Ty}
 use Rattle.ir_core.specs.declared.instructions.Value.{Value}

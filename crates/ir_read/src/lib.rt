@@ -9,6 +9,8 @@ mod module;
 mod numbers;
 mod operands;
 mod repeated;
+#[cfg(test)]
+mod tests;
 mod tokens;
 mod types;
 

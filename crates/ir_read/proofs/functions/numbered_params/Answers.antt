@@ -1,4 +1,4 @@
-use Rattle.std.proofs.Common.{◌≡◌, ◌<◌, length, sym, ◌∙◌, arith}
+use Rattle.std.proofs.Common.{◌<◌, length, arith}
 use Rattle.ir_read.proofs.Numbered.{numbered_more}
 use Rattle.ir_read.proofs.functions.numbered_params.Goals as goal
 
