@@ -44,8 +44,14 @@ refusal_text r = codes "ompopt: refused: " ++ construct_text r.construct ++ code
 
 -- ---- remarks
 
+unfoldable pub remark_start : ℕ → List ℕ
+remark_start line = codes "remark: line " ++ decimal line ++ codes ": "
+
+unfoldable pub remark_end : ℕ → List ℕ
+remark_end number = codes " [OMP" ++ decimal number ++ codes "]\n"
+
 abbrev pub remark_text : Remark → List ℕ
-remark_text r = codes "remark: line " ++ decimal r.line ++ codes ": " ++ r.text ++ codes " [OMP" ++ decimal r.number ++ codes "]\n"
+remark_text r = remark_start r.line ++ r.text ++ remark_end r.number
 
 abbrev pub remarks_text : List Remark → List ℕ
 remarks_text = flat_map remark_text

@@ -95,7 +95,8 @@ fn put(buf: &mut [u8], at: usize, piece: &[u8]) -> usize
 impl Refusal {
     /// Puts the refusal's line, without a line end, at the front of the buffer, and gives its length in bytes.
     pub fn print(&self, buf: &mut [u8; 128]) -> usize
-        ensures { take result buf.new ≡ refusal_text self.now }
+        ensures text { take result buf.new ≡ refusal_text self.now }
+        ensures within { result ≤ 128 }
     {
         let mut digits = Buffer::new();
         let end = put(buf, 0, b"ompopt: refused: ");

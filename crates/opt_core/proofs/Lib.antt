@@ -1,3 +1,5 @@
 pub mod Bytes
 pub mod Kept
 pub mod Told
+pub mod Answers
+pub mod Front

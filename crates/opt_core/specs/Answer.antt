@@ -60,10 +60,19 @@ abbrev pub IsFileReply : Option (List ℕ) → ℕ → List ℕ → List ℕ →
 IsFileReply None status out notes = (text : List ℕ) × IsTextReply text status out notes
 IsFileReply (Some text) status out notes = IsTextReply text status out notes
 
--- the reply to the words; for want of memory there may be another in its place, and where a file's input fails
+-- the answer to the words
+abbrev pub IsAnswer : Option (List ℕ) → (List ℕ → Option (List ℕ)) → ℕ → List ℕ → List ℕ → Type 0
+IsAnswer None held status out notes = IsBadWords status out notes
+IsAnswer (Some path) held status out notes = IsFileReply (held path) status out notes
+
+-- a failed input of the file that the words name
+abbrev pub IsFailure : Option (List ℕ) → ℕ → List ℕ → List ℕ → Type 0
+IsFailure None status out notes = ⊥
+IsFailure (Some path) status out notes = IsInputFailed status out notes
+
+-- the reply to the words: their answer, or that an input failed or memory ran out
 abbrev pub IsReply : Option (List ℕ) → (List ℕ → Option (List ℕ)) → ℕ → List ℕ → List ℕ → Type 0
-IsReply None held status out notes = IsBadWords status out notes ⊎ IsOutOfMemory status out notes
-IsReply (Some path) held status out notes = IsFileReply (held path) status out notes ⊎ IsInputFailed status out notes ⊎ IsOutOfMemory status out notes
+IsReply path held status out notes = IsAnswer path held status out notes ⊎ IsFailure path status out notes ⊎ IsOutOfMemory status out notes
 
 -- ---- what is written
 

@@ -2,7 +2,7 @@
 ghost use Rattle.std.specs.Prelude.{◌≡◌, ◌++◌, map, IfOk, OnOk};
 ghost use Rattle.std.specs.List.{flat_map};
 ghost use Rattle.ir_core.specs.MachineOff.{kind_init_lines, inst_init_lines, block_init_lines, function_init_lines, init_lines};
-ghost use Rattle.ir_core.specs.Notes.{remark_text, remarks_text, machine_removed};
+ghost use Rattle.ir_core.specs.Notes.{remark_start, remark_end, remark_text, remarks_text, machine_removed};
 ghost use Rattle.opt_core.specs.Optimised.{Modes, empty_mode};
 
 use crate::machine_off::calls_init;
@@ -95,18 +95,34 @@ pub fn modes_at(alloc: Global, lines: &[u32]) -> Result<List<Mode>, OutOfMemory>
     Ok(out)
 }
 
-fn write_remark(out: &mut Vec<u8>, remark: &Remark) -> Result<(), OutOfMemory>
-    ensures { OnOk result (out.new.items ≡ out.old.items ++ remark_text remark.now) }
+#[tactic(auto, unfolding(ir_core::specs::Notes::remark_start))]
+fn write_start(out: &mut Vec<u8>, line: u32) -> Result<(), OutOfMemory>
+    ensures { OnOk result (out.new.items ≡ out.old.items ++ remark_start line) }
 {
     let mut digits = Buffer::new();
     out.extend_from_slice(b"remark: line ")?;
-    out.extend_from_slice(digits.format(remark.line).as_bytes())?;
+    out.extend_from_slice(digits.format(line).as_bytes())?;
     out.extend_from_slice(b": ")?;
-    out.extend_from_slice(remark.text.as_slice())?;
+    Ok(())
+}
+
+#[tactic(auto, unfolding(ir_core::specs::Notes::remark_end))]
+fn write_end(out: &mut Vec<u8>, number: u32) -> Result<(), OutOfMemory>
+    ensures { OnOk result (out.new.items ≡ out.old.items ++ remark_end number) }
+{
+    let mut digits = Buffer::new();
     out.extend_from_slice(b" [OMP")?;
-    out.extend_from_slice(digits.format(remark.number).as_bytes())?;
+    out.extend_from_slice(digits.format(number).as_bytes())?;
     out.extend_from_slice(b"]\n")?;
     Ok(())
+}
+
+fn write_remark(out: &mut Vec<u8>, remark: &Remark) -> Result<(), OutOfMemory>
+    ensures { OnOk result (out.new.items ≡ out.old.items ++ remark_text remark.now) }
+{
+    write_start(out, remark.line)?;
+    out.extend_from_slice(remark.text.as_slice())?;
+    write_end(out, remark.number)
 }
 
 /// The text of the remarks, a line each.

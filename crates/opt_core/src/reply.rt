@@ -1,5 +1,5 @@
 //! Replies: a status, and what is to be written on the output and on the notes.
-ghost use Rattle.std.specs.Prelude.{◌≡◌, ◌++◌, [], codes, IfOk, IfErr};
+ghost use Rattle.std.specs.Prelude.{◌≡◌, ◌++◌, [], ◌<◌, codes, IfOk, IfErr};
 ghost use Rattle.ir_core.specs.Text.{Text};
 ghost use Rattle.ir_core.specs.MachineOff.{machine_off, Remarks};
 ghost use Rattle.ir_core.specs.Notes.{refusal_text, remarks_text};
@@ -63,7 +63,8 @@ fn read_checked(alloc: Global, text: &[u8]) -> Result<Checked, Or<Refusal>>
 
 /// The reply to the text of a module: the optimised module with the remarks on it, or the refusal.
 pub fn reply_to_text(alloc: Global, text: &[u8]) -> Result<Reply, OutOfMemory>
-    ensures { IfOk result (λ r. IsTextReply text.now r.status r.out r.notes) }
+    ensures reply { IfOk result (λ r. IsTextReply text.now r.status r.out r.notes) }
+    ensures own { IfOk result (λ r. r.status < 5) }
 {
     match read_checked(alloc, text) {
         Ok(m) => optimised(alloc, &m),

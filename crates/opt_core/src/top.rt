@@ -1,7 +1,7 @@
 //! The top call: what the program answers to its words, over the inputs and into the sinks.
-ghost use Rattle.std.specs.Prelude.{◌≡◌, ◌≢◌, ◌⊎◌, codes, IfOk, IfErr, OnOk, OnErr, IfSome, MatchOption, None, Some};
+ghost use Rattle.std.specs.Prelude.{◌≡◌, ◌≢◌, ◌⊎◌, codes, IfOk, ◌<◌, IfErr, OnOk, OnErr, IfSome, MatchOption, None, Some};
 ghost use Rattle.opt_core.specs.Outside.{Rose, Grows, GrowsByFront};
-ghost use Rattle.opt_core.specs.Answer.{texts, path_of, IsBadWords, IsReply, IsTold, HasRisen, IsNotTaken};
+ghost use Rattle.opt_core.specs.Answer.{texts, path_of, IsBadWords, IsAnswer, IsTold, HasRisen, IsNotTaken};
 
 use crate::outside::{Inputs, Sink, SinkFailed};
 use crate::reply::{Reply, reply_to_text};
@@ -44,7 +44,8 @@ fn reply_to_words<I: Inputs>(
     inputs: &mut I,
 ) -> Result<Reply, ReadFault>
     requires { IfSome (path_of (texts words.now)) (λ path. I.served inputs.old path) }
-    ensures reply { IfOk result (λ r. IsReply (path_of (texts words.now)) (I.held inputs.old) r.status r.out r.notes) }
+    ensures reply { IfOk result (λ r. IsAnswer (path_of (texts words.now)) (I.held inputs.old) r.status r.out r.notes) }
+    ensures own { IfOk result (λ r. r.status < 5) }
     ensures cause { IfErr result (λ e. e ≡ ReadFault.Failed → HasRisen (path_of (texts words.now)) (I.faults inputs.old) (I.faults inputs.new)) }
 {
     let Some(path) = path_in(words) else {

@@ -1,0 +1,56 @@
+-- Replies, and what is written of them.
+use Rattle.std.proofs.Common.{◌≡◌, ◌⊎◌, ℕ, ◌<◌, List, [], ◌∷◌, ◌++◌, Option, Some, None, Result, Ok, Err, IfOk, IfErr, IfSome, refl, sym, ap, ◌∙◌, subst, arith, inl, inr, codes}
+use Rattle.std.proofs.lemmas.List.{append-nil}
+use Rattle.ir_core.specs.declared.module.Module.{Module}
+use Rattle.ir_core.specs.declared.answers.Or.{Or}
+use Rattle.ir_core.specs.declared.answers.Or.TheVariants.{Refused, Memory}
+use Rattle.ir_core.specs.declared.answers.OutOfMemory.{OutOfMemory}
+use Rattle.ir_core.specs.declared.refusal.Refusal.{Refusal}
+use Rattle.ir_core.specs.Grammar.{Reads}
+use Rattle.ir_core.specs.FirstForm.{HasFirstForm}
+use Rattle.ir_core.specs.Refusals.{IsReadRefusal}
+use Rattle.ir_core.specs.Text.{Text}
+use Rattle.ir_core.specs.MachineOff.{machine_off, Remarks}
+use Rattle.ir_core.specs.Notes.{remarks_text}
+use Rattle.ir_read.proofs.Texts.{one_text}
+use Rattle.ir_check.specs.Refusal.{IsCheckRefusal}
+use Rattle.opt_core.specs.declared.reply.Reply.{Reply}
+use Rattle.opt_core.specs.Outside.{Grows, GrowsByFront}
+use Rattle.opt_core.specs.Answer.{Accepts, IsNotAccepted, IsTextReply, IsAnswer, IsReply, IsFailure, IsInputFailed, HasRisen, IsWritten, IsTold}
+
+pub not_read : (text : List ℕ) (e : Or Refusal) → IsReadRefusal text e → IsNotAccepted text e
+not_read text (Refused r) (same, none) = (same, λ m accepts. none m accepts.0)
+not_read text Memory h = tt
+
+not_checked : (text : List ℕ) (m : Module) (e : Or Refusal) → Reads text m → IsCheckRefusal m e → IsNotAccepted text e
+not_checked text m (Refused r) reads (same, none) = (same, λ n accepts. none (subst HasFirstForm (one_text text n m accepts.0 reads) accepts.1))
+not_checked text m Memory reads h = tt
+
+pub check_failed : {T : Type 0} (text : List ℕ) (m : Module) (result : Result T (Or Refusal)) → Reads text m → IfErr result (λ e. IsCheckRefusal m e) → IfErr result (λ e. IsNotAccepted text e)
+check_failed text m (Ok c) reads h = tt
+check_failed text m (Err e) reads h = not_checked text m e reads h
+
+pub is_optimised : (text : List ℕ) (m : Module) (result : Result Reply OutOfMemory) → Accepts text m → IfOk result (λ r. (r.status ≡ 0) × (r.out ≡ Text (machine_off m)) × (r.notes ≡ remarks_text (Remarks m))) → IfOk result (λ r. IsTextReply text r.status r.out r.notes)
+is_optimised text m (Ok r) accepts h = inl (m, accepts, h.0, h.1, h.2)
+is_optimised text m (Err e) accepts h = tt
+
+-- ---- what is written
+
+grows_nothing : (taken : Option (List ℕ)) → Grows taken taken []
+grows_nothing None = tt
+grows_nothing (Some xs) = sym (append-nil xs)
+
+-- nothing is written on the output, and a note on the notes or a front of it
+pub note_written : {Rose : Type 0} (status result : ℕ) (n : List ℕ) (out notes notes' : Option (List ℕ)) →
+    ((result ≡ status) × Grows notes notes' n) ⊎ ((result ≡ 6) × GrowsByFront notes notes' n × Rose) → IsWritten result status [] n out out notes notes'
+note_written status result n out notes notes' (inl (same, whole)) = inl (same, grows_nothing out, whole)
+note_written status result n out notes notes' (inr (six, front, rose)) = inr (inr (six, grows_nothing out, front))
+
+pub is_failure : (path : Option (List ℕ)) (before after : List ℕ → ℕ) (n : List ℕ) → n ≡ codes "ompopt: input failed\n" → HasRisen path before after → IsFailure path 5 [] n
+is_failure None before after n e h = absurd h
+is_failure (Some path) before after n e h = (refl, refl, e)
+
+-- an answer's own status is none of a failure
+pub not_failed : {Rose : Type 0} {A B X : Type 0} (status result : ℕ) → status < 5 → ((result ≡ status) × A) ⊎ ((result ≡ 6) × B × Rose) → result ≡ 5 → X
+not_failed status result low (inl (same, a)) five = absurd (omega arith)
+not_failed status result low (inr (six, b, rose)) five = absurd (omega arith)

@@ -1,0 +1,64 @@
+-- A text's front up to the limit and one byte spells what the text spells.
+use Rattle.std.proofs.Common.{◌≡◌, ◌⊎◌, ℕ, ◌+◌, ◌<◌, ◌≤◌, min, List, [], ◌∷◌, ◌++◌, length, take, nat_lt, Bool, true, false, Option, Some, None, IfSome, refl, sym, ap, ◌∙◌, subst, arith, if◌then◌else◌, inl, inr, length-take}
+use Rattle.std.proofs.lemmas.List.{take_all, take-take}
+use Rattle.std.proofs.lemmas.Bool.{lt-ltb, le-ltb, cases_lt}
+use Rattle.ir_core.specs.declared.module.Module.{Module}
+use Rattle.ir_core.specs.Tokens.{Token, Past, Piece, Pieces, tokens_from, text_limit, has_bad, past_limit, with_past, line_at, line_ends, kept, Lexes, lexemes}
+use Rattle.ir_core.specs.Grammar.{functions_to_end, Reads}
+use Rattle.opt_core.specs.Outside.{read_limit}
+use Rattle.opt_core.specs.Answer.{Accepts, IsTextReply, IsFileReply}
+
+limits : read_limit ≡ text_limit + 1
+unfolding read_limit text_limit
+limits = refl
+
+-- what reading tells apart in a text: the bytes up to the limit, and whether there are more
+record Alike (a b : List ℕ) : Type 0 where
+  fronts : take text_limit a ≡ take text_limit b
+  longer : nat_lt text_limit (length a) ≡ nat_lt text_limit (length b)
+
+past_same : (a b : List ℕ) (ts : List Token) → Alike a b → past_limit a ts ≡ past_limit b ts
+past_same a b ts e =
+    ap (λ bs. if nat_lt text_limit (length a) then (if has_bad ts then [] else record { kind = Past; start = text_limit; end = text_limit + 1; line = line_ends bs + 1 } ∷ []) else []) e.fronts
+    ∙ ap (λ (l : Bool). if l then (if has_bad ts then [] else record { kind = Past; start = text_limit; end = text_limit + 1; line = line_ends (take text_limit b) + 1 } ∷ []) else []) e.longer
+
+lexes_same : (a b : List ℕ) (ts : List Token) → Alike a b → Lexes a ts → Lexes b ts
+lexes_same a b ts e (ps, pieces, same) = (
+  ps,
+  subst (λ t. Pieces t ps) e.fronts pieces,
+  same ∙ ap (λ t. with_past a (tokens_from t 0 ps)) e.fronts ∙ ap (λ past. tokens_from (take text_limit b) 0 ps ++ past) (past_same a b (tokens_from (take text_limit b) 0 ps) e),
+)
+
+reads_same : (a b : List ℕ) (m : Module) → Alike a b → Reads a m → Reads b m
+reads_same a b m e (ts, lexed, spelled) = (ts, lexes_same a b ts e lexed, subst (λ t. functions_to_end (lexemes t ts) m) e.fronts spelled)
+
+turned : (a b : List ℕ) → Alike a b → Alike b a
+turned a b e = record { fronts = sym e.fronts; longer = sym e.longer }
+
+alike : (text : List ℕ) → Alike (take read_limit text) text
+alike text = record {
+  fronts = take-take text_limit read_limit text ∙ ap (λ n. take n text) (omega (arith, limits));
+  longer = by_length (cases_lt text_limit (length text));
+}
+  where
+    n : length (take read_limit text) ≡ min read_limit (length text)
+    n = length-take read_limit text
+
+    by_length : (text_limit < length text) ⊎ (length text ≤ text_limit) → nat_lt text_limit (length (take read_limit text)) ≡ nat_lt text_limit (length text)
+    by_length (inl long) = lt-ltb text_limit (length (take read_limit text)) (omega (arith, limits, n)) ∙ sym (lt-ltb text_limit (length text) long)
+    by_length (inr short) = le-ltb text_limit (length (take read_limit text)) (omega (arith, limits, n)) ∙ sym (le-ltb text_limit (length text) short)
+
+pub accepts_front : (text : List ℕ) (m : Module) → Accepts text m → Accepts (take read_limit text) m
+accepts_front text m (reads, form) = (reads_same text (take read_limit text) m (turned (take read_limit text) text (alike text)) reads, form)
+
+pub accepts_whole : (text : List ℕ) (m : Module) → Accepts (take read_limit text) m → Accepts text m
+accepts_whole text m (reads, form) = (reads_same (take read_limit text) text m (alike text) reads, form)
+
+pub reply_whole : (text : List ℕ) (status : ℕ) (out notes : List ℕ) → IsTextReply (take read_limit text) status out notes → IsTextReply text status out notes
+reply_whole text status out notes (inl (m, accepts, rest)) = inl (m, accepts_whole text m accepts, rest)
+reply_whole text status out notes (inr (none, rest)) = inr ((λ m accepts. none m (accepts_front text m accepts)), rest)
+
+-- what is replied to the bytes read is the reply to the file
+pub file_reply : (held : Option (List ℕ)) (bytes : List ℕ) (status : ℕ) (out notes : List ℕ) → IfSome held (λ content. bytes ≡ take read_limit content) → IsTextReply bytes status out notes → IsFileReply held status out notes
+file_reply None bytes status out notes e reply = (bytes, reply)
+file_reply (Some content) bytes status out notes e reply = reply_whole content status out notes (subst (λ b. IsTextReply b status out notes) e reply)
