@@ -2,3 +2,4 @@ pub mod Lexing
 pub mod Printed
 pub mod Spelled
 pub mod PrintedNumbers
+pub mod PrintedOperands

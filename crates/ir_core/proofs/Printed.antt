@@ -93,14 +93,14 @@ run_to p ws c rest kind h k a e m q g =
 
 -- ---- words
 
-if_true : {A : Type 0} (b : Bool) (x y : A) → b ≡ true → cond b x y ≡ x
+pub if_true : {A : Type 0} (b : Bool) (x y : A) → b ≡ true → cond b x y ≡ x
 if_true b x y e = ap (λ t. cond t x y) e
 
-if_false : {A : Type 0} (b : Bool) (x y : A) → b ≡ false → cond b x y ≡ y
+pub if_false : {A : Type 0} (b : Bool) (x y : A) → b ≡ false → cond b x y ≡ y
 if_false b x y e = ap (λ t. cond t x y) e
 
 -- a test that holds, and of which the first answer would not
-if_not : (b x : Bool) → cond b false x ≡ true → (b ≡ false) × (x ≡ true)
+pub if_not : (b x : Bool) → cond b false x ≡ true → (b ≡ false) × (x ≡ true)
 if_not true x e = absurd (let f : false ≡ true = e in cc)
 if_not false x e = (refl, e)
 
