@@ -1,11 +1,12 @@
 -- The tokens of a printed text, without their places and lines, found from its end to its front.
 use Rattle.std.proofs.Common.{◌≡◌, ℕ, zero, suc, ◌+◌, ◌-◌, ◌≤◌, ◌<◌, List, [], ◌∷◌, ◌++◌, length, take, drop, map, Option, Some, None, Bool, true, false, cond, refl, sym, ap, ◌∙◌, subst, inl, inr, ◌⊎◌, arith, append_assoc, length-append, take_at, drop_at, nat_lt, codes}
+use Rattle.std.specs.List.{flat_map}
 use Rattle.std.proofs.lemmas.List.{append-nil, drop-drop, take_all}
 use Rattle.std.proofs.lemmas.Bool.{le-ltb}
 use Rattle.ir_core.specs.Bytes.{Class, Blank, Semicolon, Bracket, Digit, Dash, Letter, Percent, AtSign, Colon, Other, class_of, is_word_class, is_digit_class, word_byte, digit_byte, every}
 use Rattle.ir_core.specs.Tokens.{TokenKind, Word, Local, Global, Label, Number, Mark, Bad, Token, Piece, IsLongest, Pieces, kept, tokens_from, line_at, text_limit, past_limit, with_past, Lexes, Lexeme, lexeme_of, lexemes, has_bad}
 use Rattle.ir_core.specs.Scan.{run, class_at, piece, bad_piece, is_number_tail, name_size, stem_size, by_colon, by_name, by_tail, by_class, piece_at}
-use Rattle.ir_core.specs.Text.{is_word, is_word_from, is_numeral, is_numeral_from}
+use Rattle.ir_core.specs.Text.{is_word, is_word_from, is_numeral, is_numeral_from, comma_list}
 use Rattle.ir_core.proofs.Lexing.{run_in, run_ended, run_front, run_fits, every_first, digits_in_word, tail_true, tail_made, name_made, not_bad}
 
 -- a token without its place and its line
@@ -244,3 +245,46 @@ lexed_whole text ls l r =
     let n : past_limit text us ≡ [] = if_false _ _ _ (le-ltb text_limit (length text) l) in
     let m : bare_from (take text_limit text) r.pieces ≡ ls = ap (λ t. bare_from t r.pieces) a ∙ r.tokens in
     (us, (r.pieces, subst (λ t. Pieces t r.pieces) (sym a) r.make_up, sym (ap (λ t. us ++ t) n ∙ append-nil us)), bare_tokens (take text_limit text) 0 r.pieces ∙ m)
+
+-- ---- lists with commas
+
+-- wherever a byte that ends words comes behind it, the text is these tokens
+pub record Gives (text : List ℕ) (ls : List Bare) : Type 0 where
+  pub before : (rest : List ℕ) (ms : List Bare) → Ends rest → Lexed rest ms → Lexed (text ++ rest) (ls ++ ms)
+
+abbrev pub comma : Bare
+comma = bare (Mark 44) (44 ∷ [])
+
+pub comma_lexed : (rest : List ℕ) (ls : List Bare) → Lexed rest ls → Lexed (44 ∷ 32 ∷ rest) (comma ∷ ls)
+comma_lexed rest ls r = mark_lexed 44 (32 ∷ rest) ls refl (blank_lexed 32 rest ls refl r)
+
+abbrev pub led_by_comma : {X : Type 0} → (X → List Bare) → X → List Bare
+led_by_comma toks x = comma ∷ toks x
+
+-- a list with commas up to its closing mark
+abbrev pub listed : {X : Type 0} → ℕ → (X → List Bare) → List X → List Bare
+listed close toks [] = bare (Mark close) (close ∷ []) ∷ []
+listed close toks (x ∷ xs) = toks x ++ (flat_map (led_by_comma toks) xs ++ bare (Mark close) (close ∷ []) ∷ [])
+
+abbrev pub EachGives : {X : Type 0} → (X → List ℕ) → (X → List Bare) → List X → Type 0
+EachGives show toks [] = Unit {0}
+EachGives show toks (x ∷ xs) = Gives (show x) (toks x) × EachGives show toks xs
+
+abbrev pub led : List ℕ → List ℕ
+led part = codes ", " ++ part
+
+-- what comes behind the first of a list, up to what ends it
+led_ends : {X : Type 0} (show : X → List ℕ) (xs : List X) (rest : List ℕ) → Ends rest → Ends (flat_map led (map show xs) ++ rest)
+led_ends show [] rest e = e
+led_ends show (x ∷ xs) rest e = refl
+
+led_lexed : {X : Type 0} (show : X → List ℕ) (toks : X → List Bare) (xs : List X) (rest : List ℕ) (ls : List Bare) → EachGives show toks xs → Ends rest → Lexed rest ls → Lexed (flat_map led (map show xs) ++ rest) (flat_map (led_by_comma toks) xs ++ ls)
+led_lexed show toks [] rest ls h e r = r
+led_lexed show toks (x ∷ xs) rest ls h e r =
+    simp append_assoc (comma_lexed (show x ++ (flat_map led (map show xs) ++ rest)) (toks x ++ (flat_map (led_by_comma toks) xs ++ ls)) (h.0.before (flat_map led (map show xs) ++ rest) (flat_map (led_by_comma toks) xs ++ ls) (led_ends show xs rest e) (led_lexed show toks xs rest ls h.1 e r)))
+
+pub list_lexed : {X : Type 0} (close : ℕ) (show : X → List ℕ) (toks : X → List Bare) (xs : List X) (rest : List ℕ) (ls : List Bare) → class_of close ≡ Bracket → EachGives show toks xs → Lexed rest ls → Lexed (comma_list (map show xs) ++ close ∷ rest) (listed close toks xs ++ ls)
+list_lexed close show toks [] rest ls c h r = mark_lexed close rest ls c r
+list_lexed close show toks (x ∷ xs) rest ls c h r =
+    let e : Ends (close ∷ rest) = ap ends_class c in
+    simp append_assoc (h.0.before (flat_map led (map show xs) ++ close ∷ rest) (flat_map (led_by_comma toks) xs ++ bare (Mark close) (close ∷ []) ∷ ls) (led_ends show xs (close ∷ rest) e) (led_lexed show toks xs (close ∷ rest) (bare (Mark close) (close ∷ []) ∷ ls) h.1 e (mark_lexed close rest ls c r)))

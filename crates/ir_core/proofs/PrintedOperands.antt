@@ -18,7 +18,7 @@ use Rattle.ir_core.specs.Text.{is_word, name_text, local_text, global_name_text,
 use Rattle.ir_core.specs.FirstForm.{is_width, is_scalar, is_number_of}
 use Rattle.ir_core.proofs.Printed.{Bare, bare, bare_of, Lexed, Ends, word_lexed, local_lexed, global_lexed, number_lexed, minus_lexed, blank_lexed, if_true, if_false}
 use Rattle.ir_core.proofs.PrintedNumbers.{decimal_digits, plain_in_range, plain_kept, minus_in_range, minus_kept}
-use Rattle.ir_core.proofs.Spelled.{Spelled, Shows, spelled_done, spelled_then, token_then, shows_in, shows_word}
+use Rattle.ir_core.proofs.Spelled.{Spelled, Shows, spelled_done, token_same, shows_in, shows_word}
 
 -- ---- types
 
@@ -249,9 +249,9 @@ shows_any_number _ n s h = absurd (let f : false ≡ true = h in cc)
 
 pub shows_value : (ty : Ty) (v : Value) → is_scalar ty ≡ true → GoodValue ty v → Shows (IsValue ty) (value_bare ty v) (λ x. x ≡ v)
 shows_value ty (IntValue n) s h = shows_any_number ty n s h
-shows_value ty Null s h t e = (Null, (ap (λ (b : Bare). b.kind) e, ap (λ (b : Bare). b.bytes) e, refl), refl)
-shows_value ty (Register x) s h t e = let r = shows_local x t e in (Register x, (ap (λ (b : Bare). b.kind) e, ap (λ (b : Bare). drop 1 b.bytes) e), refl)
-shows_value ty (GlobalValue x) s h t e = (GlobalValue x, (ap (λ (b : Bare). b.kind) e, ap (λ (b : Bare). drop 1 b.bytes) e), refl)
+shows_value ty Null s h = λ t e. (Null, (ap (λ (b : Bare). b.kind) e, ap (λ (b : Bare). b.bytes) e, refl), refl)
+shows_value ty (Register x) s h = λ t e. (Register x, (ap (λ (b : Bare). b.kind) e, ap (λ (b : Bare). drop 1 b.bytes) e), refl)
+shows_value ty (GlobalValue x) s h = λ t e. (GlobalValue x, (ap (λ (b : Bare). b.kind) e, ap (λ (b : Bare). drop 1 b.bytes) e), refl)
 
 -- ---- operands with their types
 
@@ -269,4 +269,4 @@ pub typed_lexed : (v : Typed) (rest : List ℕ) (ls : List Bare) → GoodTyped v
 typed_lexed v rest ls h e r = simp append_assoc (type_lexed v.ty (value_text v.ty v.value ++ rest) (value_bare v.ty v.value ∷ ls) (scalar_word v.ty h.0).0 (value_lexed v.ty v.value rest ls h.0 h.1 e r))
 
 pub typed_spelled : (v : Typed) → GoodTyped v → Spelled typed (typed_bare v) (λ x. x ≡ v)
-typed_spelled v h = token_then (shows_scalar v.ty h.0) (λ ty p. token_then (subst (λ t. Shows (IsValue t) (value_bare v.ty v.value) (λ x. x ≡ v.value)) (sym p) (shows_value v.ty v.value h.0 h.1)) (λ value q. spelled_done (record { ty = ty; value = value }) (λ x. x ≡ v) (λ i. record { ty = p i; value = q i })))
+typed_spelled v h = token_same (shows_scalar v.ty h.0) (token_same (shows_value v.ty v.value h.0 h.1) (spelled_done v (λ x. x ≡ v) refl))

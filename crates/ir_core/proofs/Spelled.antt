@@ -3,7 +3,7 @@ use Rattle.std.proofs.Common.{◌≡◌, ℕ, List, [], ◌∷◌, ◌++◌, map
 use Rattle.std.specs.List.{flat_map}
 use Rattle.ir_core.specs.Tokens.{TokenKind, Word, Mark, Lexeme}
 use Rattle.ir_core.specs.Spell.{Spell, done, one, ◌>>=◌, any, many, InTable, IsWordIn, IsWord, word, IsMark, mark, with_line, Items, AtEnd, OneMore, after_comma, items, list_to}
-use Rattle.ir_core.proofs.Printed.{Bare, bare, bare_of}
+use Rattle.ir_core.proofs.Printed.{Bare, bare, bare_of, comma, led_by_comma, listed}
 
 -- all tokens that are these, on whatever lines, spell something with the property
 pub record Spelled {X : Type 0} (S : List Lexeme → X → Type 0) (ls : List Bare) (P : X → Type 0) : Type 0 where
@@ -65,6 +65,16 @@ spelled_one {X = X} {Is = Is} {b = b} {P = P} h = record { all = λ ts e. by ts 
 pub token_then : {X Y : Type 0} {Is : Lexeme → X → Type 0} {T : X → List Lexeme → Y → Type 0} {b : Bare} {ms : List Bare} {P : X → Type 0} {Q : Y → Type 0} → Shows Is b P → ((x : X) → P x → Spelled (T x) ms Q) → Spelled (one Is >>= T) (b ∷ ms) Q
 token_then h t = spelled_then (spelled_one h) t
 
+-- the same where only one value is meant
+pub spelled_same : {X Y : Type 0} {S : List Lexeme → X → Type 0} {T : X → List Lexeme → Y → Type 0} {ls ms : List Bare} {v : X} {Q : Y → Type 0} → Spelled S ls (λ x. x ≡ v) → Spelled (T v) ms Q → Spelled (S >>= T) (ls ++ ms) Q
+spelled_same {T = T} {ms = ms} {Q = Q} s t = spelled_then {T = T} {ms = ms} {Q = Q} s (λ x p. subst (λ y. Spelled (T y) ms Q) (sym p) t)
+
+pub token_same : {X Y : Type 0} {Is : Lexeme → X → Type 0} {T : X → List Lexeme → Y → Type 0} {b : Bare} {ms : List Bare} {v : X} {Q : Y → Type 0} → Shows Is b (λ x. x ≡ v) → Spelled (T v) ms Q → Spelled (one Is >>= T) (b ∷ ms) Q
+token_same {T = T} {ms = ms} {Q = Q} h t = token_then h (λ x p. subst (λ y. Spelled (T y) ms Q) (sym p) t)
+
+pub spelled_more : {X : Type 0} {S : List Lexeme → X → Type 0} {ls : List Bare} {P Q : X → Type 0} → Spelled S ls P → ((x : X) → P x → Q x) → Spelled S ls Q
+spelled_more s f = record { all = λ ts e. let a = s.all ts e in (a.0, a.1, f a.0 a.2) }
+
 pub spelled_any : {K X : Type 0} {S : K → List Lexeme → X → Type 0} {ls : List Bare} {P : X → Type 0} (form : K) → Spelled (S form) ls P → Spelled (any S) ls P
 spelled_any form s = record { all = λ ts e. let a = s.all ts e in (a.0, (form, a.1), a.2) }
 
@@ -99,17 +109,6 @@ spelled_many S toks f (x ∷ xs) h = record {
       (a.0 ∷ b.0, (r.front, r.rest, a.1, b.1, r.whole), (λ i. a.2 i ∷ b.2 i));
 }
 
-abbrev pub comma : Bare
-comma = bare (Mark 44) (44 ∷ [])
-
-abbrev pub led_by_comma : {X : Type 0} → (X → List Bare) → X → List Bare
-led_by_comma toks x = comma ∷ toks x
-
--- a list with commas up to its closing mark
-abbrev pub listed : {X : Type 0} → ℕ → (X → List Bare) → List X → List Bare
-listed close toks [] = bare (Mark close) (close ∷ []) ∷ []
-listed close toks (x ∷ xs) = toks x ++ (flat_map (led_by_comma toks) xs ++ bare (Mark close) (close ∷ []) ∷ [])
-
 each_after_comma : {X Y : Type 0} (S : List Lexeme → X → Type 0) (toks : X → List Bare) (f : X → Y) (xs : List X) → EachSpelled S toks f xs → EachSpelled (after_comma S) (led_by_comma toks) f xs
 each_after_comma S toks f [] h = tt
 each_after_comma S toks f (x ∷ xs) h = (token_then (shows_mark 44) (λ line u. h.0), each_after_comma S toks f xs h.1)
@@ -117,3 +116,11 @@ each_after_comma S toks f (x ∷ xs) h = (token_then (shows_mark 44) (λ line u.
 pub spelled_list : {X Y : Type 0} (close : ℕ) (S : List Lexeme → X → Type 0) (toks : X → List Bare) (f : X → Y) (xs : List X) → EachSpelled S toks f xs → Spelled (list_to close S) (listed close toks xs) (λ ys. map f xs ≡ map f ys)
 spelled_list close S toks f [] h = spelled_any AtEnd (token_then (shows_mark close) (λ line u. spelled_done [] (λ ys. map f [] ≡ map f ys) refl))
 spelled_list close S toks f (x ∷ xs) h = spelled_any OneMore (spelled_then {ms = flat_map (led_by_comma toks) xs ++ bare (Mark close) (close ∷ []) ∷ []} {Q = λ zs. map f (x ∷ xs) ≡ map f zs} h.0 (λ y p. spelled_then {ms = bare (Mark close) (close ∷ []) ∷ []} {Q = λ zs. map f (x ∷ xs) ≡ map f zs} (spelled_many (after_comma S) (led_by_comma toks) f xs (each_after_comma S toks f xs h.1)) (λ ys q. token_then (shows_mark close) (λ line u. spelled_done (y ∷ ys) (λ zs. map f (x ∷ xs) ≡ map f zs) (λ i. p i ∷ q i)))))
+
+-- a list that is spelled as it is
+map_same : {X : Type 0} (xs : List X) → map (λ x. x) xs ≡ xs
+map_same [] = refl
+map_same (x ∷ xs) = ap (λ l. x ∷ l) (map_same xs)
+
+pub spelled_list_same : {X : Type 0} (close : ℕ) (S : List Lexeme → X → Type 0) (toks : X → List Bare) (xs : List X) → EachSpelled S toks (λ x. x) xs → Spelled (list_to close S) (listed close toks xs) (λ ys. ys ≡ xs)
+spelled_list_same close S toks xs h = spelled_more (spelled_list close S toks (λ x. x) xs h) (λ ys e. sym (map_same ys) ∙ sym e ∙ map_same xs)
