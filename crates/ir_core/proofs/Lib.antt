@@ -3,3 +3,4 @@ pub mod Printed
 pub mod Spelled
 pub mod PrintedNumbers
 pub mod PrintedOperands
+pub mod PrintedInstructions

@@ -288,3 +288,71 @@ list_lexed close show toks [] rest ls c h r = mark_lexed close rest ls c r
 list_lexed close show toks (x ∷ xs) rest ls c h r =
     let e : Ends (close ∷ rest) = ap ends_class c in
     simp append_assoc (h.0.before (flat_map led (map show xs) ++ close ∷ rest) (flat_map (led_by_comma toks) xs ++ bare (Mark close) (close ∷ []) ∷ ls) (led_ends show xs (close ∷ rest) e) (led_lexed show toks xs (close ∷ rest) (bare (Mark close) (close ∷ []) ∷ ls) h.1 e (mark_lexed close rest ls c r)))
+
+-- ---- texts one behind the other
+
+-- whatever comes behind it, the text is these tokens
+pub record Closes (text : List ℕ) (ls : List Bare) : Type 0 where
+  pub before : (rest : List ℕ) (ms : List Bare) → Lexed rest ms → Lexed (text ++ rest) (ls ++ ms)
+
+regroup : (a b rest : List ℕ) (la lb ms : List Bare) → Lexed (a ++ (b ++ rest)) (la ++ (lb ++ ms)) → Lexed ((a ++ b) ++ rest) ((la ++ lb) ++ ms)
+regroup a b rest la lb ms r = subst (λ t. Lexed t ((la ++ lb) ++ ms)) (sym (append_assoc a b rest)) (subst (Lexed (a ++ (b ++ rest))) (sym (append_assoc la lb ms)) r)
+
+pub gives_none : Gives [] []
+gives_none = record { before = λ rest ms e r. r }
+
+pub gives_of : {a : List ℕ} {la : List Bare} → Closes a la → Gives a la
+gives_of x = record { before = λ rest ms e r. x.before rest ms r }
+
+pub gives_then : {a b : List ℕ} {la lb : List Bare} → Gives a la → Gives b lb → ((rest : List ℕ) → Ends rest → Ends (b ++ rest)) → Gives (a ++ b) (la ++ lb)
+gives_then {a} {b} {la} {lb} x y s = record { before = λ rest ms e r. regroup a b rest la lb ms (x.before (b ++ rest) (lb ++ ms) (s rest e) (y.before rest ms e r)) }
+
+pub gives_closes : {a b : List ℕ} {la lb : List Bare} → Gives a la → Closes b lb → ((rest : List ℕ) → Ends (b ++ rest)) → Closes (a ++ b) (la ++ lb)
+gives_closes {a} {b} {la} {lb} x y s = record { before = λ rest ms r. regroup a b rest la lb ms (x.before (b ++ rest) (lb ++ ms) (s rest) (y.before rest ms r)) }
+
+pub closes_gives : {a b : List ℕ} {la lb : List Bare} → Closes a la → Gives b lb → Gives (a ++ b) (la ++ lb)
+closes_gives {a} {b} {la} {lb} x y = record { before = λ rest ms e r. regroup a b rest la lb ms (x.before (b ++ rest) (lb ++ ms) (y.before rest ms e r)) }
+
+pub closes_then : {a b : List ℕ} {la lb : List Bare} → Closes a la → Closes b lb → Closes (a ++ b) (la ++ lb)
+closes_then {a} {b} {la} {lb} x y = record { before = λ rest ms r. regroup a b rest la lb ms (x.before (b ++ rest) (lb ++ ms) (y.before rest ms r)) }
+
+abbrev pub EachCloses : {X : Type 0} → (X → List ℕ) → (X → List Bare) → List X → Type 0
+EachCloses show toks [] = Unit {0}
+EachCloses show toks (x ∷ xs) = Closes (show x) (toks x) × EachCloses show toks xs
+
+pub closes_many : {X : Type 0} (show : X → List ℕ) (toks : X → List Bare) (xs : List X) → EachCloses show toks xs → Closes (flat_map show xs) (flat_map toks xs)
+closes_many show toks [] h = record { before = λ rest ms r. r }
+closes_many show toks (x ∷ xs) h = closes_then h.0 (closes_many show toks xs h.1)
+
+-- blanks, a comma, a mark, a word with its space, and a word with its colon
+pub closes_blank : (c : ℕ) → class_of c ≡ Blank → Closes (c ∷ []) []
+closes_blank c e = record { before = λ rest ms r. blank_lexed c rest ms e r }
+
+pub closes_space : Closes (codes " ") []
+closes_space = closes_blank 32 refl
+
+pub closes_line : Closes (codes "\n") []
+closes_line = closes_blank 10 refl
+
+pub closes_comma : Closes (codes ", ") (comma ∷ [])
+closes_comma = record { before = λ rest ms r. comma_lexed rest ms r }
+
+pub closes_mark : (m : ℕ) → class_of m ≡ Bracket → Closes (m ∷ []) (bare (Mark m) (m ∷ []) ∷ [])
+closes_mark m e = record { before = λ rest ms r. mark_lexed m rest ms e r }
+
+pub gives_word : (w : List ℕ) → is_word w ≡ true → Gives w (bare Word w ∷ [])
+gives_word w h = record { before = λ rest ms e r. word_lexed w rest ms h e r }
+
+pub closes_word : (w : List ℕ) → is_word w ≡ true → Closes (w ++ codes " ") (bare Word w ∷ [])
+closes_word w h = gives_closes (gives_word w h) closes_space (λ rest. refl)
+
+pub closes_label : (w : List ℕ) → is_word w ≡ true → Closes (w ++ codes ":") (bare Label (w ++ codes ":") ∷ [])
+closes_label w h = record { before = λ rest ms r. subst (λ t. Lexed t (bare Label (w ++ codes ":") ∷ ms)) (sym (append_assoc w (codes ":") rest)) (label_lexed w rest ms h r) }
+
+-- a list with commas and its closing mark
+pub closes_list : {X : Type 0} (close : ℕ) (show : X → List ℕ) (toks : X → List Bare) (xs : List X) → class_of close ≡ Bracket → EachGives show toks xs → Closes (comma_list (map show xs) ++ close ∷ []) (listed close toks xs)
+closes_list close show toks xs c h = record { before = λ rest ms r. subst (λ t. Lexed t (listed close toks xs ++ ms)) (sym (append_assoc (comma_list (map show xs)) (close ∷ []) rest)) (list_lexed close show toks xs rest ms c h r) }
+
+-- a text, a list with commas and its closing mark
+pub closes_with_list : {X : Type 0} {a : List ℕ} {la : List Bare} (close : ℕ) (show : X → List ℕ) (toks : X → List Bare) (xs : List X) → class_of close ≡ Bracket → Closes a la → EachGives show toks xs → Closes (a ++ comma_list (map show xs) ++ close ∷ []) (la ++ listed close toks xs)
+closes_with_list {a = a} {la = la} close show toks xs c x h = subst (λ t. Closes t (la ++ listed close toks xs)) (sym (append_assoc a (comma_list (map show xs)) (close ∷ []))) (closes_then x (closes_list close show toks xs c h))

@@ -16,7 +16,7 @@ use Rattle.ir_core.specs.Spell.{InTable, one, IsWordIn}
 use Rattle.ir_core.specs.Grammar.{scalar_types, result_types, IsScalarType, IsResultType, truth_words, IsValue, IsLocal, IsGlobal, typed}
 use Rattle.ir_core.specs.Text.{is_word, name_text, local_text, global_name_text, type_text, type_layer, signed_text, truth_text, integer_text, number_text, value_text, typed_text}
 use Rattle.ir_core.specs.FirstForm.{is_width, is_scalar, is_number_of}
-use Rattle.ir_core.proofs.Printed.{Bare, bare, bare_of, Lexed, Ends, word_lexed, local_lexed, global_lexed, number_lexed, minus_lexed, blank_lexed, if_true, if_false}
+use Rattle.ir_core.proofs.Printed.{Gives, gives_word, closes_word, closes_gives, Bare, bare, bare_of, Lexed, Ends, word_lexed, local_lexed, global_lexed, number_lexed, minus_lexed, blank_lexed, if_true, if_false}
 use Rattle.ir_core.proofs.PrintedNumbers.{decimal_digits, plain_in_range, plain_kept, minus_in_range, minus_kept}
 use Rattle.ir_core.proofs.Spelled.{Spelled, Shows, spelled_done, token_same, shows_in, shows_word}
 
@@ -261,12 +261,29 @@ GoodTyped v = (is_scalar v.ty ≡ true) × GoodValue v.ty v.value
 abbrev pub typed_bare : Typed → List Bare
 typed_bare v = type_bare v.ty ∷ value_bare v.ty v.value ∷ []
 
--- a type and the space behind it
-pub type_lexed : (ty : Ty) (rest : List ℕ) (ls : List Bare) → is_word (type_text ty) ≡ true → Lexed rest ls → Lexed (type_text ty ++ 32 ∷ rest) (type_bare ty ∷ ls)
-type_lexed ty rest ls h r = word_lexed (type_text ty) (32 ∷ rest) ls h refl (blank_lexed 32 rest ls refl r)
+pub gives_value_text : (ty : Ty) (v : Value) → is_scalar ty ≡ true → GoodValue ty v → Gives (value_text ty v) (value_bare ty v ∷ [])
+gives_value_text ty v s h = record { before = λ rest ms e r. value_lexed ty v rest ms s h e r }
 
-pub typed_lexed : (v : Typed) (rest : List ℕ) (ls : List Bare) → GoodTyped v → Ends rest → Lexed rest ls → Lexed (typed_text v ++ rest) (typed_bare v ++ ls)
-typed_lexed v rest ls h e r = simp append_assoc (type_lexed v.ty (value_text v.ty v.value ++ rest) (value_bare v.ty v.value ∷ ls) (scalar_word v.ty h.0).0 (value_lexed v.ty v.value rest ls h.0 h.1 e r))
+pub gives_scalar : (ty : Ty) → is_scalar ty ≡ true → Gives (type_text ty) (type_bare ty ∷ [])
+gives_scalar ty h = gives_word (type_text ty) (scalar_word ty h).0
+
+pub gives_result : (ty : Ty) → is_result ty ≡ true → Gives (type_text ty) (type_bare ty ∷ [])
+gives_result ty h = gives_word (type_text ty) (result_word ty h).0
+
+abbrev pub local_bare : List ℕ → Bare
+local_bare x = bare Local (37 ∷ x)
+
+abbrev pub global_bare : List ℕ → Bare
+global_bare x = bare Global (64 ∷ x)
+
+pub gives_local : (x : List ℕ) → is_word x ≡ true → Gives (local_text x) (local_bare x ∷ [])
+gives_local x h = record { before = λ rest ms e r. local_text_lexed x rest ms h e r }
+
+pub gives_global : (x : List ℕ) → is_word x ≡ true → Gives (global_name_text x) (global_bare x ∷ [])
+gives_global x h = record { before = λ rest ms e r. global_text_lexed x rest ms h e r }
+
+pub gives_typed : (v : Typed) → GoodTyped v → Gives (typed_text v) (typed_bare v)
+gives_typed v h = closes_gives (closes_word (type_text v.ty) (scalar_word v.ty h.0).0) (gives_value_text v.ty v.value h.0 h.1)
 
 pub typed_spelled : (v : Typed) → GoodTyped v → Spelled typed (typed_bare v) (λ x. x ≡ v)
 typed_spelled v h = token_same (shows_scalar v.ty h.0) (token_same (shows_value v.ty v.value h.0 h.1) (spelled_done v (λ x. x ≡ v) refl))
