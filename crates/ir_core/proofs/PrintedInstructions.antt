@@ -18,12 +18,12 @@ use Rattle.ir_core.specs.Spell.{InTable}
 use Rattle.ir_core.specs.Grammar.{IsLocal, typed, next_typed, next_value, target, next_target, no_flags, call, value_words, Binary, Compare, LoadForm, CallForm, value, plain, Assigns, Stores, Calls, branch_of, Straight, Tested, last_of, Branches, Returns, predicates}
 use Rattle.ir_core.specs.Grammar.{ValueForm}
 use Rattle.ir_core.specs.Spell.{any}
-use Rattle.ir_core.specs.Text.{is_word, local_text, type_text, value_text, typed_text, bin_op_text, flags_text, align_text, kind_text, result_text, inst_text}
+use Rattle.ir_core.specs.Text.{is_word, local_text, type_text, value_text, typed_text, bin_op_text, flags_text, align_text, kind_text, target_text, result_text, inst_text}
 use Rattle.ir_core.specs.FirstForm.{is_scalar, is_add_sub_or_mul}
 use Rattle.ir_core.specs.Lines.{inst_unlined}
 use Rattle.ir_core.proofs.Printed.{gives_none, gives_of, gives_then, gives_closes, closes_gives, closes_then, closes_space, closes_line, closes_comma, closes_mark, closes_word, closes_with_list, gives_word, Closes, Bare, bare, Lexed, Ends, word_lexed, mark_lexed, blank_lexed, Gives, EachGives, comma, comma_lexed, listed, list_lexed}
 use Rattle.ir_core.proofs.PrintedOperands.{gives_value_text, gives_scalar, gives_result, gives_local, gives_global, gives_typed, local_bare, global_bare, is_result, type_bare, value_bare, typed_bare, GoodValue, GoodTyped, scalar_word, result_word, typed_spelled, shows_scalar, shows_result, shows_value, shows_local, shows_global}
-use Rattle.ir_core.proofs.Spelled.{Spelled, Shows, EachSpelled, spelled_done, spelled_then, spelled_same, token_then, token_same, spelled_any, shows_word, shows_mark, shows_in, shows_line, spelled_list_same}
+use Rattle.ir_core.proofs.Spelled.{Spelled, Shows, EachSpelled, spelled_done, spelled_then, spelled_same, token_then, token_same, spelled_any, spelled_one, spelled_more, spelled_as, shows_word, shows_mark, shows_in, shows_line, spelled_list_same}
 
 -- ---- what can be read back
 
@@ -95,5 +95,105 @@ op_word Mul h = refl
 op_word _ h = absurd (let f : false ≡ true = h in cc)
 
 -- T A, B behind a text
-pair_gives : {a : List ℕ} {la : List Bare} (ty : Ty) (x y : Value) → Closes a la → is_scalar ty ≡ true → GoodValue ty x → GoodValue ty y → Gives (a ++ type_text ty ++ codes " " ++ value_text ty x ++ codes ", " ++ value_text ty y) (la ++ type_bare ty ∷ [] ++ value_bare ty x ∷ [] ++ comma ∷ [] ++ value_bare ty y ∷ [])
-pair_gives ty x y c s g h = ?
+pair_gives : {a : List ℕ} {la : List Bare} (ty : Ty) (x y : Value) → Closes a la → is_scalar ty ≡ true → GoodValue ty x → GoodValue ty y → Gives (a ++ type_text ty ++ codes " " ++ value_text ty x ++ codes ", " ++ value_text ty y) (la ++ type_bare ty ∷ [] ++ [] ++ value_bare ty x ∷ [] ++ comma ∷ [] ++ value_bare ty y ∷ [])
+pair_gives ty x y c s g h = closes_gives (gives_closes (closes_gives (gives_closes (closes_gives c (gives_scalar ty s)) closes_space (λ rest. refl)) (gives_value_text ty x s g)) closes_comma (λ rest. refl)) (gives_value_text ty y s h)
+
+bin_gives : (op : BinOp) (ty : Ty) (a b : Value) → GoodKind (Bin op no_flags ty a b) → Gives (kind_text (Bin op no_flags ty a b)) (kind_bare (Bin op no_flags ty a b))
+bin_gives op ty a b g = pair_gives ty a b (gives_closes (gives_then (gives_word (bin_op_text op) (op_word op g.0)) gives_none (λ rest e. e)) closes_space (λ rest. refl)) g.2 g.3 g.4
+
+-- a text, a comma, and an operand with its type
+comma_typed : {a : List ℕ} {la : List Bare} (v : Typed) → Gives a la → GoodTyped v → Gives (a ++ codes ", " ++ typed_text v) (la ++ comma ∷ [] ++ typed_bare v)
+comma_typed v x h = closes_gives (gives_closes x closes_comma (λ rest. refl)) (gives_typed v h)
+
+-- a text, and nothing behind it
+and_none : {a : List ℕ} {la : List Bare} → Gives a la → Gives (a ++ []) (la ++ [])
+and_none x = gives_then x gives_none (λ rest e. e)
+
+load_gives : (ty : Ty) (at : Typed) → GoodKind (Load ty at None 0) → Gives (kind_text (Load ty at None 0)) (kind_bare (Load ty at None 0))
+load_gives ty at g = and_none (and_none (comma_typed at (closes_gives (closes_word (codes "load") refl) (gives_scalar ty g.0)) g.1))
+
+store_gives : (v at : Typed) → GoodKind (Store v at None 0) → Gives (kind_text (Store v at None 0)) (kind_bare (Store v at None 0))
+store_gives v at g = and_none (and_none (comma_typed at (closes_gives (closes_word (codes "store") refl) (gives_typed v g.0)) g.1))
+
+each_typed : (vs : List Typed) → AllTyped vs → EachGives typed_text typed_bare vs
+each_typed [] h = tt
+each_typed (v ∷ vs) h = (gives_typed v h.0, each_typed vs h.1)
+
+call_gives : (ret : Ty) (callee : List ℕ) (args : List Typed) → GoodKind (Call Absent ret (GlobalValue callee) args) → Gives (kind_text (Call Absent ret (GlobalValue callee) args)) (kind_bare (Call Absent ret (GlobalValue callee) args))
+call_gives ret callee args g = gives_of (closes_with_list 41 typed_text typed_bare args refl (gives_closes (closes_gives (gives_closes (closes_gives (closes_word (codes "call") refl) (gives_result ret g.0)) closes_space (λ rest. refl)) (gives_global callee g.1)) (closes_mark 40 refl) (λ rest. refl)) (each_typed args g.2))
+
+pub gives_target : (b : List ℕ) → is_word b ≡ true → Gives (target_text b) (target_bare b)
+gives_target b h = closes_gives (closes_word (codes "label") refl) (gives_local b h)
+
+branch_gives : (cond : Typed) (then_to else_to : List ℕ) → GoodKind (CondBr cond then_to else_to) → Gives (kind_text (CondBr cond then_to else_to)) (kind_bare (CondBr cond then_to else_to))
+branch_gives cond then_to else_to g = closes_gives (gives_closes (closes_gives (gives_closes (closes_gives (closes_word (codes "br") refl) (gives_typed cond g.0)) closes_comma (λ rest. refl)) (gives_target then_to g.1)) closes_comma (λ rest. refl)) (gives_target else_to g.2)
+
+pub kind_gives : (k : Kind) → GoodKind k → Gives (kind_text k) (kind_bare k)
+kind_gives (Bin op flags ty a b) g = subst (λ f. Gives (kind_text (Bin op f ty a b)) (kind_bare (Bin op f ty a b))) (sym g.1) (bin_gives op ty a b (g.0, refl, g.2, g.3, g.4))
+kind_gives (ICmp Eq ty a b) g = pair_gives ty a b (closes_then (closes_word (codes "icmp") refl) (closes_word (codes "eq") refl)) g.0 g.1 g.2
+kind_gives (Load ty at None align) g = subst (λ n. Gives (kind_text (Load ty at None n)) (kind_bare (Load ty at None n))) (sym g.2) (load_gives ty at (g.0, g.1, refl))
+kind_gives (Store v at None align) g = subst (λ n. Gives (kind_text (Store v at None n)) (kind_bare (Store v at None n))) (sym g.2) (store_gives v at (g.0, g.1, refl))
+kind_gives (Call Absent ret (GlobalValue callee) args) g = call_gives ret callee args g
+kind_gives (Br to) g = closes_gives (closes_word (codes "br") refl) (gives_target to g)
+kind_gives (CondBr cond then_to else_to) g = branch_gives cond then_to else_to g
+kind_gives (Ret None) g = closes_gives (closes_word (codes "ret") refl) (gives_word (codes "void") refl)
+kind_gives _ g = absurd g
+
+-- ---- the tokens spell the kind
+
+spelled_next_typed : (v : Typed) → GoodTyped v → Spelled next_typed (comma ∷ typed_bare v) (λ x. x ≡ v)
+spelled_next_typed v h = token_then (shows_mark 44) (λ line u. typed_spelled v h)
+
+spelled_next_value : (ty : Ty) (v : Value) → is_scalar ty ≡ true → GoodValue ty v → Spelled (next_value ty) (comma ∷ value_bare ty v ∷ []) (λ x. x ≡ v)
+spelled_next_value ty v s h = token_then (shows_mark 44) (λ line u. spelled_one (shows_value ty v s h))
+
+spelled_target : (b : List ℕ) → Spelled target (target_bare b) (λ x. x ≡ b)
+spelled_target b = token_then (shows_word (codes "label")) (λ line u. spelled_one (shows_local b))
+
+spelled_next_target : (b : List ℕ) → Spelled next_target (comma ∷ target_bare b) (λ x. x ≡ b)
+spelled_next_target b = token_then (shows_mark 44) (λ line u. spelled_target b)
+
+op_in : (op : BinOp) → is_add_sub_or_mul op ≡ true → InTable value_words (bin_op_text op) (Binary op)
+op_in Add h = inl (refl, refl)
+op_in Sub h = inr (inl (refl, refl))
+op_in Mul h = inr (inr (inl (refl, refl)))
+op_in _ h = absurd (let f : false ≡ true = h in cc)
+
+bin_spelled : (op : BinOp) (ty : Ty) (a b : Value) → GoodKind (Bin op no_flags ty a b) → Spelled value (kind_bare (Bin op no_flags ty a b)) (λ x. x ≡ Bin op no_flags ty a b)
+bin_spelled op ty a b g =
+    token_same (shows_in value_words (bin_op_text op) (Binary op) (op_in op g.0))
+      (token_same (shows_scalar ty g.2) (token_same (shows_value ty a g.2 g.3)
+        (spelled_same {ls = comma ∷ value_bare ty b ∷ []} {ms = []} {v = b} {Q = λ x. x ≡ Bin op no_flags ty a b} (spelled_next_value ty b g.2 g.4) (spelled_done (Bin op no_flags ty a b) (λ x. x ≡ Bin op no_flags ty a b) refl))))
+
+icmp_spelled : (ty : Ty) (a b : Value) → GoodKind (ICmp Eq ty a b) → Spelled value (kind_bare (ICmp Eq ty a b)) (λ x. x ≡ ICmp Eq ty a b)
+icmp_spelled ty a b g =
+    token_same (shows_in value_words (codes "icmp") Compare (inr (inr (inr (inl (refl, refl))))))
+      (token_same (shows_in predicates (codes "eq") Eq (inl (refl, refl)))
+        (token_same (shows_scalar ty g.0) (token_same (shows_value ty a g.0 g.1)
+          (spelled_same {ls = comma ∷ value_bare ty b ∷ []} {ms = []} {v = b} {Q = λ x. x ≡ ICmp Eq ty a b} (spelled_next_value ty b g.0 g.2) (spelled_done (ICmp Eq ty a b) (λ x. x ≡ ICmp Eq ty a b) refl)))))
+
+load_spelled : (ty : Ty) (at : Typed) → GoodKind (Load ty at None 0) → Spelled value (kind_bare (Load ty at None 0)) (λ x. x ≡ Load ty at None 0)
+load_spelled ty at g =
+    token_same (shows_in value_words (codes "load") LoadForm (inr (inr (inr (inr (inl (refl, refl)))))))
+      (token_same (shows_scalar ty g.0)
+        (spelled_same {ls = comma ∷ typed_bare at} {ms = []} {v = at} {Q = λ x. x ≡ Load ty at None 0} (spelled_next_typed at g.1) (spelled_done (Load ty at None 0) (λ x. x ≡ Load ty at None 0) refl)))
+
+each_spelled : (vs : List Typed) → AllTyped vs → EachSpelled typed typed_bare (λ x. x) vs
+each_spelled [] h = tt
+each_spelled (v ∷ vs) h = (spelled_more (typed_spelled v h.0) (λ x e. sym e), each_spelled vs h.1)
+
+call_spelled : (ret : Ty) (callee : List ℕ) (args : List Typed) → GoodKind (Call Absent ret (GlobalValue callee) args) → Spelled call (call_bare ret (GlobalValue callee) args) (λ x. x ≡ Call Absent ret (GlobalValue callee) args)
+call_spelled ret callee args g =
+    token_same (shows_result ret g.0) (token_same (shows_global callee) (token_then (shows_mark 40) (λ line u.
+      spelled_as (append-nil (listed 41 typed_bare args)) (spelled_same {ls = listed 41 typed_bare args} {ms = []} {v = args} {Q = λ x. x ≡ Call Absent ret (GlobalValue callee) args} (spelled_list_same 41 typed typed_bare args (each_spelled args g.2)) (spelled_done (Call Absent ret (GlobalValue callee) args) (λ x. x ≡ Call Absent ret (GlobalValue callee) args) refl)))))
+
+pub value_spelled : (k : Kind) → GoodKind k → gives_value k ≡ true → Spelled value (kind_bare k) (λ x. x ≡ k)
+value_spelled (Bin op flags ty a b) g h = subst (λ f. Spelled value (kind_bare (Bin op f ty a b)) (λ x. x ≡ Bin op f ty a b)) (sym g.1) (bin_spelled op ty a b (g.0, refl, g.2, g.3, g.4))
+value_spelled (ICmp Eq ty a b) g h = icmp_spelled ty a b g
+value_spelled (Load ty at None align) g h = subst (λ n. Spelled value (kind_bare (Load ty at None n)) (λ x. x ≡ Load ty at None n)) (sym g.2) (load_spelled ty at (g.0, g.1, refl))
+value_spelled (Call Absent ret (GlobalValue callee) args) g h = token_same (shows_in value_words (codes "call") CallForm (inr (inr (inr (inr (inr (inl (refl, refl)))))))) (call_spelled ret callee args g)
+value_spelled (Store v at None align) g h = absurd (let f : false ≡ true = h in cc)
+value_spelled (Br to) g h = absurd (let f : false ≡ true = h in cc)
+value_spelled (CondBr cond then_to else_to) g h = absurd (let f : false ≡ true = h in cc)
+value_spelled (Ret None) g h = absurd (let f : false ≡ true = h in cc)
+value_spelled _ g h = absurd g

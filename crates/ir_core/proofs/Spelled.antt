@@ -75,6 +75,10 @@ token_same {T = T} {ms = ms} {Q = Q} h t = token_then h (λ x p. subst (λ y. Sp
 pub spelled_more : {X : Type 0} {S : List Lexeme → X → Type 0} {ls : List Bare} {P Q : X → Type 0} → Spelled S ls P → ((x : X) → P x → Q x) → Spelled S ls Q
 spelled_more s f = record { all = λ ts e. let a = s.all ts e in (a.0, a.1, f a.0 a.2) }
 
+-- the same tokens written otherwise
+pub spelled_as : {X : Type 0} {S : List Lexeme → X → Type 0} {ls ms : List Bare} {P : X → Type 0} → ls ≡ ms → Spelled S ls P → Spelled S ms P
+spelled_as {S = S} {P = P} e s = subst (λ l. Spelled S l P) e s
+
 pub spelled_any : {K X : Type 0} {S : K → List Lexeme → X → Type 0} {ls : List Bare} {P : X → Type 0} (form : K) → Spelled (S form) ls P → Spelled (any S) ls P
 spelled_any form s = record { all = λ ts e. let a = s.all ts e in (a.0, (form, a.1), a.2) }
 
