@@ -4,3 +4,4 @@ pub mod Spelled
 pub mod PrintedNumbers
 pub mod PrintedOperands
 pub mod PrintedInstructions
+pub mod PrintedFunctions

@@ -298,6 +298,10 @@ pub record Closes (text : List ℕ) (ls : List Bare) : Type 0 where
 regroup : (a b rest : List ℕ) (la lb ms : List Bare) → Lexed (a ++ (b ++ rest)) (la ++ (lb ++ ms)) → Lexed ((a ++ b) ++ rest) ((la ++ lb) ++ ms)
 regroup a b rest la lb ms r = subst (λ t. Lexed t ((la ++ lb) ++ ms)) (sym (append_assoc a b rest)) (subst (Lexed (a ++ (b ++ rest))) (sym (append_assoc la lb ms)) r)
 
+-- the same tokens written otherwise
+pub closes_as : {a : List ℕ} {ls ms : List Bare} → ls ≡ ms → Closes a ls → Closes a ms
+closes_as {a} e x = subst (Closes a) e x
+
 pub gives_none : Gives [] []
 gives_none = record { before = λ rest ms e r. r }
 

@@ -21,7 +21,7 @@ use Rattle.ir_core.specs.Spell.{any}
 use Rattle.ir_core.specs.Text.{is_word, local_text, type_text, value_text, typed_text, bin_op_text, flags_text, align_text, kind_text, target_text, result_text, inst_text}
 use Rattle.ir_core.specs.FirstForm.{is_scalar, is_add_sub_or_mul}
 use Rattle.ir_core.specs.Lines.{inst_unlined}
-use Rattle.ir_core.proofs.Printed.{gives_none, gives_of, gives_then, gives_closes, closes_gives, closes_then, closes_space, closes_line, closes_comma, closes_mark, closes_word, closes_with_list, gives_word, Closes, Bare, bare, Lexed, Ends, word_lexed, mark_lexed, blank_lexed, Gives, EachGives, comma, comma_lexed, listed, list_lexed}
+use Rattle.ir_core.proofs.Printed.{gives_none, gives_of, gives_then, gives_closes, closes_gives, closes_then, closes_as, closes_space, closes_line, closes_comma, closes_mark, closes_word, closes_with_list, gives_word, Closes, Bare, bare, Lexed, Ends, word_lexed, mark_lexed, blank_lexed, Gives, EachGives, comma, comma_lexed, listed, list_lexed}
 use Rattle.ir_core.proofs.PrintedOperands.{gives_value_text, gives_scalar, gives_result, gives_local, gives_global, gives_typed, local_bare, global_bare, is_result, type_bare, value_bare, typed_bare, GoodValue, GoodTyped, scalar_word, result_word, typed_spelled, shows_scalar, shows_result, shows_value, shows_local, shows_global}
 use Rattle.ir_core.proofs.Spelled.{Spelled, Shows, EachSpelled, spelled_done, spelled_then, spelled_same, token_then, token_same, spelled_any, spelled_one, spelled_more, spelled_as, shows_word, shows_mark, shows_in, shows_line, spelled_list_same}
 
@@ -197,3 +197,120 @@ value_spelled (Br to) g h = absurd (let f : false ≡ true = h in cc)
 value_spelled (CondBr cond then_to else_to) g h = absurd (let f : false ≡ true = h in cc)
 value_spelled (Ret None) g h = absurd (let f : false ≡ true = h in cc)
 value_spelled _ g h = absurd g
+
+-- ---- instructions
+
+-- a name that an instruction gives
+abbrev pub GoodResult : Option (List ℕ) → Type 0
+GoodResult None = Unit {0}
+GoodResult (Some x) = is_word x ≡ true
+
+-- an instruction that ends no block, and one that does
+abbrev pub IsPlain : Option (List ℕ) → Kind → Type 0
+IsPlain None k = has_effect k ≡ true
+IsPlain (Some x) k = gives_value k ≡ true
+
+abbrev pub IsLast : Option (List ℕ) → Kind → Type 0
+IsLast None k = ends_block k ≡ true
+IsLast (Some x) k = ⊥
+
+pub record GoodInst (i : Inst) : Type 0 where
+  pub result : GoodResult i.result
+  pub kind : GoodKind i.kind
+
+pub record GoodPlain (i : Inst) : Type 0 where
+  pub good : GoodInst i
+  pub shape : IsPlain i.result i.kind
+
+pub record GoodLast (i : Inst) : Type 0 where
+  pub good : GoodInst i
+  pub shape : IsLast i.result i.kind
+
+equals_closes : Closes (codes " = ") (bare (Mark 61) (61 ∷ []) ∷ [])
+equals_closes = closes_then closes_space (closes_then (closes_mark 61 refl) closes_space)
+
+result_closes : (r : Option (List ℕ)) → GoodResult r → Closes (codes "  " ++ result_text r) (result_bare r)
+result_closes None h = closes_then closes_space closes_space
+result_closes (Some x) h = closes_then (closes_then closes_space closes_space) (gives_closes (gives_local x h) equals_closes (λ rest. refl))
+
+pub inst_closes : (i : Inst) → GoodInst i → Closes (inst_text i) (inst_bare i)
+inst_closes i g = closes_as (append-nil (inst_bare i)) (gives_closes (closes_gives (result_closes i.result g.result) (kind_gives i.kind g.kind)) closes_line (λ rest. refl))
+
+-- an instruction on some line
+abbrev unlined_as : Option (List ℕ) → Kind → Inst → Type 0
+unlined_as r k n = ◌≡◌ {A = Inst} (record { result = r; kind = k; line = 0 }) (inst_unlined n)
+
+assign_spelled : (x : List ℕ) (k : Kind) → GoodKind k → gives_value k ≡ true → Spelled plain (result_bare (Some x) ++ kind_bare k) (unlined_as (Some x) k)
+assign_spelled x k g h =
+    spelled_any Assigns (token_then (shows_line (shows_local x)) (λ y p. token_then (shows_mark 61) (λ line u.
+      spelled_as (append-nil (kind_bare k)) (spelled_then {ls = kind_bare k} {ms = []} {Q = unlined_as (Some x) k} (value_spelled k g h) (λ l q.
+        spelled_done (record { result = Some y.0; kind = l; line = y.1 }) (unlined_as (Some x) k) (λ i. record { result = Some (sym p i); kind = sym q i; line = 0 }))))))
+
+store_spelled : (v at : Typed) → GoodKind (Store v at None 0) → Spelled plain (kind_bare (Store v at None 0)) (unlined_as None (Store v at None 0))
+store_spelled v at g =
+    spelled_any Stores (token_then (shows_word (codes "store")) (λ line u.
+      spelled_same {ls = typed_bare v} {ms = comma ∷ typed_bare at} {v = v} {Q = unlined_as None (Store v at None 0)} (typed_spelled v g.0)
+        (spelled_same {ls = comma ∷ typed_bare at} {ms = []} {v = at} {Q = unlined_as None (Store v at None 0)} (spelled_next_typed at g.1)
+          (spelled_done (record { result = None; kind = Store v at None 0; line = line }) (unlined_as None (Store v at None 0)) refl))))
+
+bare_call_spelled : (ret : Ty) (callee : List ℕ) (args : List Typed) → GoodKind (Call Absent ret (GlobalValue callee) args) → Spelled plain (kind_bare (Call Absent ret (GlobalValue callee) args)) (unlined_as None (Call Absent ret (GlobalValue callee) args))
+bare_call_spelled ret callee args g =
+    let k = Call Absent ret (GlobalValue callee) args in
+    let l = call_bare ret (GlobalValue callee) args in
+    spelled_any Calls (token_then (shows_word (codes "call")) (λ line u.
+      spelled_as (append-nil l) (spelled_same {ls = l} {ms = []} {v = k} {Q = unlined_as None k} (call_spelled ret callee args g)
+        (spelled_done (record { result = None; kind = k; line = line }) (unlined_as None k) refl))))
+
+effect_spelled : (k : Kind) → GoodKind k → has_effect k ≡ true → Spelled plain (kind_bare k) (unlined_as None k)
+effect_spelled (Store v at None align) g h = subst (λ n. Spelled plain (kind_bare (Store v at None n)) (unlined_as None (Store v at None n))) (sym g.2) (store_spelled v at (g.0, g.1, refl))
+effect_spelled (Call Absent ret (GlobalValue callee) args) g h = bare_call_spelled ret callee args g
+effect_spelled (Bin op flags ty a b) g h = absurd (let f : false ≡ true = h in cc)
+effect_spelled (ICmp pred ty a b) g h = absurd (let f : false ≡ true = h in cc)
+effect_spelled (Load ty at order align) g h = absurd (let f : false ≡ true = h in cc)
+effect_spelled (Br to) g h = absurd (let f : false ≡ true = h in cc)
+effect_spelled (CondBr cond then_to else_to) g h = absurd (let f : false ≡ true = h in cc)
+effect_spelled (Ret v) g h = absurd (let f : false ≡ true = h in cc)
+effect_spelled _ g h = absurd g
+
+plain_by : (r : Option (List ℕ)) (k : Kind) → GoodKind k → IsPlain r k → Spelled plain (result_bare r ++ kind_bare k) (unlined_as r k)
+plain_by None k g h = effect_spelled k g h
+plain_by (Some x) k g h = assign_spelled x k g h
+
+pub plain_spelled : (i : Inst) → GoodPlain i → Spelled plain (inst_bare i) (λ n. inst_unlined i ≡ inst_unlined n)
+plain_spelled i g = plain_by i.result i.kind g.good.kind g.shape
+
+-- the last instruction of a block
+br_spelled : (to : List ℕ) → Spelled (any branch_of) (target_bare to) (λ k. k ≡ Br to)
+br_spelled to = spelled_any Straight (spelled_same {ls = target_bare to} {ms = []} {v = to} {Q = λ k. k ≡ Br to} (spelled_target to) (spelled_done (Br to) (λ k. k ≡ Br to) refl))
+
+cond_spelled : (cond : Typed) (then_to else_to : List ℕ) → GoodTyped cond → Spelled (any branch_of) (typed_bare cond ++ comma ∷ (target_bare then_to ++ comma ∷ target_bare else_to)) (λ k. k ≡ CondBr cond then_to else_to)
+cond_spelled cond then_to else_to g =
+    let Q : Kind → Type 0 = λ k. k ≡ CondBr cond then_to else_to in
+    spelled_any Tested (spelled_same {ls = typed_bare cond} {ms = comma ∷ (target_bare then_to ++ comma ∷ target_bare else_to)} {v = cond} {Q = Q} (typed_spelled cond g)
+      (spelled_same {ls = comma ∷ target_bare then_to} {ms = comma ∷ target_bare else_to} {v = then_to} {Q = Q} (spelled_next_target then_to)
+        (spelled_same {ls = comma ∷ target_bare else_to} {ms = []} {v = else_to} {Q = Q} (spelled_next_target else_to)
+          (spelled_done (CondBr cond then_to else_to) Q refl))))
+
+branch_spelled : (k : Kind) (ls : List Bare) → Spelled (any branch_of) ls (λ x. x ≡ k) → Spelled (any last_of) (bare Word (codes "br") ∷ ls) (unlined_as None k)
+branch_spelled k ls s =
+    spelled_any Branches (token_then (shows_word (codes "br")) (λ line u.
+      spelled_as (append-nil ls) (spelled_same {ls = ls} {ms = []} {v = k} {Q = unlined_as None k} s
+        (spelled_done (record { result = None; kind = k; line = line }) (unlined_as None k) refl))))
+
+end_spelled : (k : Kind) → GoodKind k → ends_block k ≡ true → Spelled (any last_of) (kind_bare k) (unlined_as None k)
+end_spelled (Br to) g h = branch_spelled (Br to) (target_bare to) (br_spelled to)
+end_spelled (CondBr cond then_to else_to) g h = branch_spelled (CondBr cond then_to else_to) (typed_bare cond ++ comma ∷ (target_bare then_to ++ comma ∷ target_bare else_to)) (cond_spelled cond then_to else_to g.0)
+end_spelled (Ret None) g h = spelled_any Returns (token_then (shows_word (codes "ret")) (λ line u. token_then (shows_word (codes "void")) (λ l u. spelled_done (record { result = None; kind = Ret None; line = line }) (unlined_as None (Ret None)) refl)))
+end_spelled (Bin op flags ty a b) g h = absurd (let f : false ≡ true = h in cc)
+end_spelled (ICmp pred ty a b) g h = absurd (let f : false ≡ true = h in cc)
+end_spelled (Load ty at order align) g h = absurd (let f : false ≡ true = h in cc)
+end_spelled (Store v at order align) g h = absurd (let f : false ≡ true = h in cc)
+end_spelled (Call tail_word ret callee args) g h = absurd (let f : false ≡ true = h in cc)
+end_spelled _ g h = absurd g
+
+last_by : (r : Option (List ℕ)) (k : Kind) → GoodKind k → IsLast r k → Spelled (any last_of) (result_bare r ++ kind_bare k) (unlined_as r k)
+last_by None k g h = end_spelled k g h
+last_by (Some x) k g h = absurd h
+
+pub last_spelled : (i : Inst) → GoodLast i → Spelled (any last_of) (inst_bare i) (λ n. inst_unlined i ≡ inst_unlined n)
+last_spelled i g = last_by i.result i.kind g.good.kind g.shape
