@@ -5,3 +5,4 @@ pub mod PrintedNumbers
 pub mod PrintedOperands
 pub mod PrintedInstructions
 pub mod PrintedFunctions
+pub mod PrintedFirstForm
