@@ -675,7 +675,7 @@ class_inside text at a e n =
     let f : length text ≤ at → ⊥ = λ l. n (sym e ∙ class_past at text l) in
     omega arith
 
-not_bad : (xs : List ℕ) (p : Piece) → 0 < length xs → p ≡ piece_at xs → (p.kind ≡ Some Bad → ⊥) → IsLongest xs p.kind p.size
+pub not_bad : (xs : List ℕ) (p : Piece) → 0 < length xs → p ≡ piece_at xs → (p.kind ≡ Some Bad → ⊥) → IsLongest xs p.kind p.size
 not_bad xs p l e n = by (subst (Found xs) (sym e) (found_at xs l))
   where
     by : Found xs p → IsLongest xs p.kind p.size

@@ -11,3 +11,4 @@ pub mod FirstForm
 pub mod Lines
 pub mod MachineOff
 pub mod Notes
+pub mod ReadsBack

@@ -44,8 +44,11 @@ refusal_text r = codes "ompopt: refused: " ++ construct_text r.construct ++ code
 
 -- ---- remarks
 
+unfoldable pub remark_word : List ℕ
+remark_word = codes "remark: line "
+
 unfoldable pub remark_start : ℕ → List ℕ
-remark_start line = codes "remark: line " ++ decimal line ++ codes ": "
+remark_start line = remark_word ++ decimal line ++ codes ": "
 
 unfoldable pub remark_end : ℕ → List ℕ
 remark_end number = codes " [OMP" ++ decimal number ++ codes "]\n"

@@ -37,7 +37,7 @@ turned a b e = record { fronts = sym e.fronts; longer = sym e.longer }
 
 alike : (text : List ℕ) → Alike (take read_limit text) text
 alike text = record {
-  fronts = take-take text_limit read_limit text ∙ ap (λ n. take n text) (omega (arith, limits));
+  fronts = take-take text_limit read_limit text (omega (arith, limits));
   longer = by_length (cases_lt text_limit (length text));
 }
   where
@@ -55,8 +55,8 @@ pub accepts_whole : (text : List ℕ) (m : Module) → Accepts (take read_limit 
 accepts_whole text m (reads, form) = (reads_same (take read_limit text) text m (alike text) reads, form)
 
 pub reply_whole : (text : List ℕ) (status : ℕ) (out notes : List ℕ) → IsTextReply (take read_limit text) status out notes → IsTextReply text status out notes
-reply_whole text status out notes (inl (m, accepts, rest)) = inl (m, accepts_whole text m accepts, rest)
-reply_whole text status out notes (inr (none, rest)) = inr ((λ m accepts. none m (accepts_front text m accepts)), rest)
+reply_whole text status out notes (inl (m, accepts, s, o, n)) = inl (m, accepts_whole text m accepts, s, o, n)
+reply_whole text status out notes (inr (none, s, o, n)) = inr ((λ m accepts. none m (accepts_front text m accepts)), s, o, n)
 
 -- what is replied to the bytes read is the reply to the file
 pub file_reply : (held : Option (List ℕ)) (bytes : List ℕ) (status : ℕ) (out notes : List ℕ) → IfSome held (λ content. bytes ≡ take read_limit content) → IsTextReply bytes status out notes → IsFileReply held status out notes

@@ -2,7 +2,7 @@
 ghost use Rattle.std.specs.Prelude.{◌≡◌, ◌++◌, map, IfOk, OnOk};
 ghost use Rattle.std.specs.List.{flat_map};
 ghost use Rattle.ir_core.specs.MachineOff.{kind_init_lines, inst_init_lines, block_init_lines, function_init_lines, init_lines};
-ghost use Rattle.ir_core.specs.Notes.{remark_start, remark_end, remark_text, remarks_text, machine_removed};
+ghost use Rattle.ir_core.specs.Notes.{remark_word, remark_start, remark_end, remark_text, remarks_text, machine_removed};
 ghost use Rattle.opt_core.specs.Optimised.{Modes, empty_mode};
 
 use crate::machine_off::calls_init;
@@ -95,12 +95,19 @@ pub fn modes_at(alloc: Global, lines: &[u32]) -> Result<List<Mode>, OutOfMemory>
     Ok(out)
 }
 
+#[tactic(auto, unfolding(ir_core::specs::Notes::remark_word))]
+fn remark_word() -> &'static [u8]
+    ensures { result.now ≡ remark_word }
+{
+    b"remark: line "
+}
+
 #[tactic(auto, unfolding(ir_core::specs::Notes::remark_start))]
 fn write_start(out: &mut Vec<u8>, line: u32) -> Result<(), OutOfMemory>
     ensures { OnOk result (out.new.items ≡ out.old.items ++ remark_start line) }
 {
     let mut digits = Buffer::new();
-    out.extend_from_slice(b"remark: line ")?;
+    out.extend_from_slice(remark_word())?;
     out.extend_from_slice(digits.format(line).as_bytes())?;
     out.extend_from_slice(b": ")?;
     Ok(())
