@@ -84,13 +84,20 @@ pub fn remarks_at(alloc: Global, lines: &[u32]) -> Result<List<Remark>, OutOfMem
     Ok(out)
 }
 
-/// One mode for each kernel.
+// A kernel without a region runs without a machine.
+fn mode_at(_line: u32) -> Mode
+    ensures { result ≡ empty_mode _line }
+{
+    Mode::Empty
+}
+
+/// One mode for each kernel, by the line of its init call.
 pub fn modes_at(alloc: Global, lines: &[u32]) -> Result<List<Mode>, OutOfMemory>
     ensures { IfOk result (λ ms. ms ≡ map empty_mode lines.now) }
 {
     let mut out = List::new(alloc);
-    for _line in lines {
-        out.push(Mode::Empty)?;
+    for line in lines {
+        out.push(mode_at(*line))?;
     }
     Ok(out)
 }
