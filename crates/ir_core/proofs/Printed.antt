@@ -7,7 +7,7 @@ use Rattle.ir_core.specs.Bytes.{Class, Blank, Semicolon, Bracket, Digit, Dash, L
 use Rattle.ir_core.specs.Tokens.{TokenKind, Word, Local, Global, Label, Number, Mark, Bad, Token, Piece, IsLongest, Pieces, kept, tokens_from, line_at, text_limit, past_limit, with_past, Lexes, Lexeme, lexeme_of, lexemes, has_bad}
 use Rattle.ir_core.specs.Scan.{run, class_at, piece, bad_piece, is_number_tail, name_size, stem_size, by_colon, by_name, by_tail, by_class, piece_at}
 use Rattle.ir_core.specs.Text.{is_word, is_word_from, is_numeral, is_numeral_from, comma_list}
-use Rattle.ir_core.proofs.Lexing.{run_in, run_ended, run_front, run_fits, every_first, digits_in_word, tail_true, tail_made, name_made, not_bad}
+use Rattle.ir_core.proofs.Lexing.{run_ended, run_front, every_first, every_more, digit_class, tail_true, tail_made, name_made, not_bad}
 
 -- a token without its place and its line
 pub record Bare : Type 0 where
@@ -182,24 +182,12 @@ pub global_lexed : (w rest : List ℕ) (ls : List Bare) → is_word w ≡ true �
 global_lexed w rest ls h e r = piece_more (Some Global) (64 ∷ w) rest ls (omega arith) (sign_piece Global w rest h e) (λ f. cc) r
 
 -- digits, and digits behind a -
-digit_class : (a : Class) → is_digit_class a ≡ true → a ≡ Digit
-digit_class Digit e = refl
-digit_class Blank e = cc
-digit_class Semicolon e = cc
-digit_class Bracket e = cc
-digit_class Dash e = cc
-digit_class Letter e = cc
-digit_class Percent e = cc
-digit_class AtSign e = cc
-digit_class Colon e = cc
-digit_class Other e = cc
-
 word_digit : (c : ℕ) → digit_byte c ≡ true → word_byte c ≡ true
 word_digit c e = ap is_word_class (digit_class (class_of c) e)
 
 every_word : (ds : List ℕ) → every digit_byte ds ≡ true → every word_byte ds ≡ true
 every_word [] h = refl
-every_word (d ∷ ds) h = let e = every_first digit_byte d ds h in if_true _ _ _ (word_digit d e.0) ∙ every_word ds e.1
+every_word (d ∷ ds) h = let e = every_first digit_byte d ds h in every_more word_byte d ds (word_digit d e.0) (every_word ds e.1)
 
 pub number_lexed : (ds rest : List ℕ) (ls : List Bare) → 0 < length ds → every digit_byte ds ≡ true → Ends rest → Lexed rest ls → Lexed (ds ++ rest) (bare Number ds ∷ ls)
 number_lexed [] rest ls l h e r = absurd (omega arith)

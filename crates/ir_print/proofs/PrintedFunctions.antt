@@ -1,23 +1,22 @@
 -- Printed blocks, functions and modules: their tokens, and what they spell.
-use Rattle.std.proofs.Common.{◌≡◌, ℕ, ◌+◌, ◌-◌, ◌≤◌, List, [], ◌∷◌, ◌++◌, length, take, map, Option, Some, None, Bool, true, false, refl, sym, ap, ◌∙◌, subst, inl, inr, ◌⊎◌, append_assoc, codes, arith, length-append, take_at}
+use Rattle.std.proofs.Common.{◌≡◌, ℕ, ◌+◌, ◌-◌, ◌≤◌, List, [], ◌∷◌, ◌++◌, length, take, map, true, refl, sym, ap, ◌∙◌, subst, append_assoc, codes, arith, length-append, take_at}
 use Rattle.std.specs.List.{flat_map}
 use Rattle.std.proofs.lemmas.List.{append-nil}
 use Rattle.ir_core.specs.declared.types.Ty.{Ty}
 use Rattle.ir_core.specs.declared.instructions.Inst.{Inst}
-use Rattle.ir_core.specs.declared.module.Module.{Module}
 use Rattle.ir_core.specs.declared.module.Function.{Function}
 use Rattle.ir_core.specs.declared.module.Param.{Param}
 use Rattle.ir_core.specs.declared.module.Block.{Block}
-use Rattle.ir_core.specs.Tokens.{Word, Label, Mark, text_limit, Lexeme, lexemes}
-use Rattle.ir_core.specs.Spell.{any, many, one, list_to}
-use Rattle.ir_core.specs.Grammar.{IsLabel, IsScalarType, plain, last_of, block, param, numbered, body, heading, function_of, Defines, Declares, of_functions, functions_to_end, Reads}
-use Rattle.ir_core.specs.Text.{is_word, name_text, type_text, inst_text, block_text, param_text, param_type_text, heading_text, body_text, function_text, Text}
+use Rattle.ir_core.specs.Tokens.{Word, Label, Mark, text_limit, lexemes}
+use Rattle.ir_core.specs.Spell.{any, one}
+use Rattle.ir_core.specs.Grammar.{IsLabel, IsScalarType, plain, block, param, numbered, body, heading, function_of, Defines, Declares, of_functions, functions_to_end}
+use Rattle.ir_core.specs.Text.{is_word, name_text, type_text, inst_text, block_text, param_text, param_type_text, heading_text, function_text, Text}
 use Rattle.ir_core.specs.FirstForm.{is_scalar}
 use Rattle.ir_core.specs.Lines.{inst_unlined, block_unlined, function_unlined, SameButLines}
 use Rattle.ir_core.specs.ReadsBack.{ReadsBack}
-use Rattle.ir_core.proofs.Printed.{comma, led_by_comma, Bare, bare, bare_of, Lexed, label_lexed, blank_lexed, Gives, EachGives, Closes, EachCloses, listed, closes_as, gives_closes, closes_gives, closes_then, closes_many, closes_space, closes_line, closes_mark, closes_word, closes_with_list, lexed_end, lexed_whole}
-use Rattle.ir_core.proofs.PrintedOperands.{is_result, type_bare, plain_name, scalar_word, result_word, global_bare, local_bare, gives_scalar, gives_result, gives_local, gives_global, shows_scalar, shows_result, shows_local, shows_global}
-use Rattle.ir_core.proofs.PrintedInstructions.{inst_bare, GoodPlain, GoodLast, inst_closes, plain_spelled, last_spelled}
+use Rattle.ir_core.proofs.Printed.{comma, led_by_comma, Bare, bare, Lexed, label_lexed, blank_lexed, EachGives, Closes, EachCloses, listed, closes_as, gives_closes, closes_gives, closes_then, closes_many, closes_space, closes_line, closes_mark, closes_word, closes_with_list, lexed_end, lexed_whole}
+use Rattle.ir_print.proofs.PrintedOperands.{is_result, type_bare, plain_name, scalar_word, global_bare, local_bare, gives_scalar, gives_result, gives_local, gives_global, shows_scalar, shows_result, shows_local, shows_global}
+use Rattle.ir_print.proofs.PrintedInstructions.{inst_bare, GoodPlain, GoodLast, inst_closes, plain_spelled, last_spelled}
 use Rattle.ir_core.proofs.Spelled.{Spelled, Shows, EachSpelled, spelled_done, spelled_then, spelled_same, spelled_more, spelled_as, spelled_one, token_then, token_same, spelled_any, spelled_many, spelled_list_same, shows_word, shows_mark, shows_line}
 
 -- ---- blocks

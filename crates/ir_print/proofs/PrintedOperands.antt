@@ -1,24 +1,24 @@
 -- Printed types and operands: their tokens, and what they spell.
-use Rattle.std.proofs.Common.{◌≡◌, ℕ, zero, suc, ◌+◌, ◌-◌, ◌^◌, ◌/◌, ◌%◌, ◌≤◌, ◌<◌, List, [], ◌∷◌, ◌++◌, length, drop, Bool, true, false, cond, refl, sym, ap, ◌∙◌, subst, inl, inr, ◌⊎◌, arith, append_assoc, decimal, nat_lt, ◌==◌, if◌then◌else◌, codes}
-use Rattle.std.proofs.lemmas.Bool.{ltb-true, ltb-false, lt-ltb, le-ltb, eqb-true}
+use Rattle.std.proofs.Common.{◌≡◌, ℕ, zero, suc, ◌+◌, ◌-◌, ◌^◌, ◌/◌, ◌%◌, ◌≤◌, ◌<◌, List, [], ◌∷◌, ◌++◌, drop, Bool, true, false, cond, refl, sym, ap, ◌∙◌, subst, inl, inr, ◌⊎◌, arith, decimal, nat_lt, ◌==◌, if◌then◌else◌, codes}
+use Rattle.std.proofs.lemmas.Bool.{ltb-true, ltb-false, lt-ltb, eqb-true}
 use Rattle.std.proofs.lemmas.Fmt.{decimal_nonempty, decimal_digit, decimal_step}
-use Rattle.std.proofs.Math.Nat.{pow-le-pow_right, two-pow-succ}
+use Rattle.std.proofs.Math.Nat.{pow-le-pow_right}
 use Rattle.ir_core.specs.declared.types.Ty.{Ty, fold-roll-Ty}
 use Rattle.ir_core.specs.declared.types.Ty.TheOpen.{Ty-F}
 use Rattle.ir_core.specs.declared.types.Ty.TheVariants.{Void, Int as IntTy, Ptr, rolls-Void, rolls-Int, rolls-Ptr}
 use Rattle.ir_core.specs.declared.instructions.Value.{Value}
 use Rattle.ir_core.specs.declared.instructions.Value.TheVariants.{Int as IntValue, Null, Local as Register, Global as GlobalValue}
 use Rattle.ir_core.specs.declared.instructions.Typed.{Typed}
-use Rattle.ir_core.specs.Bytes.{digit_byte, every}
-use Rattle.ir_core.specs.Tokens.{TokenKind, Word, Local, Global, Number, Lexeme}
+use Rattle.ir_core.specs.Tokens.{TokenKind, Word, Local, Global, Number}
 use Rattle.ir_core.specs.Numbers.{is_number_in_range, kept_at}
-use Rattle.ir_core.specs.Spell.{InTable, one, IsWordIn}
+use Rattle.ir_core.specs.Spell.{InTable, IsWordIn}
 use Rattle.ir_core.specs.Grammar.{scalar_types, result_types, IsScalarType, IsResultType, truth_words, IsValue, IsLocal, IsGlobal, typed}
-use Rattle.ir_core.specs.Text.{is_word, name_text, local_text, global_name_text, type_text, type_layer, signed_text, truth_text, integer_text, number_text, value_text, typed_text}
+use Rattle.ir_core.specs.Text.{is_word, name_text, local_text, global_name_text, type_text, type_layer, integer_text, number_text, value_text, typed_text}
 use Rattle.ir_core.specs.FirstForm.{is_width, is_scalar, is_number_of}
-use Rattle.ir_core.proofs.Printed.{Gives, gives_word, closes_word, closes_gives, Bare, bare, bare_of, Lexed, Ends, word_lexed, local_lexed, global_lexed, number_lexed, minus_lexed, blank_lexed, if_true, if_false}
-use Rattle.ir_core.proofs.PrintedNumbers.{decimal_digits, plain_in_range, plain_kept, minus_in_range, minus_kept}
-use Rattle.ir_core.proofs.Spelled.{Spelled, Shows, spelled_done, token_same, shows_in, shows_word}
+use Rattle.ir_print.proofs.Signed.{half_of}
+use Rattle.ir_core.proofs.Printed.{Gives, gives_word, closes_word, closes_gives, Bare, bare, Lexed, Ends, word_lexed, local_lexed, global_lexed, number_lexed, minus_lexed, if_true, if_false}
+use Rattle.ir_print.proofs.PrintedNumbers.{decimal_digits, plain_in_range, plain_kept, minus_in_range, minus_kept}
+use Rattle.ir_core.proofs.Spelled.{Spelled, Shows, spelled_done, token_same, shows_in}
 
 -- ---- types
 
@@ -103,10 +103,6 @@ pub shows_result : (ty : Ty) → is_result ty ≡ true → Shows IsResultType (t
 shows_result ty h = shows_in result_types (type_text ty) ty (result_word ty h).1
 
 -- ---- numbers
-
-half_of : (width : ℕ) → 0 < width → 2 ^ width ≡ 2 ^ (width - 1) + 2 ^ (width - 1)
-half_of zero h = absurd (omega arith)
-half_of (suc k) h = let e : suc k - 1 ≡ k = omega arith in rw e (two-pow-succ k)
 
 -- how a number of a width is printed
 pub data Shown (width n : ℕ) : Type 0 where

@@ -1,14 +1,12 @@
 -- Printed numbers, and what they are kept as.
-use Rattle.std.proofs.Common.{mod-eq_of_lt, ◌≡◌, ℕ, zero, suc, ◌+◌, ◌-◌, ◌*◌, ◌/◌, ◌%◌, ◌^◌, ◌≤◌, ◌<◌, List, [], ◌∷◌, ◌++◌, length, drop, Bool, true, false, cond, refl, sym, ap, ◌∙◌, subst, inl, inr, ◌⊎◌, arith, length-append, decimal, nat_lt, ◌==◌, if◌then◌else◌, codes}
-use Rattle.std.proofs.lemmas.Bool.{ltb-true, lt-ltb, le-ltb, le-leb, eqb-true}
-use Rattle.std.proofs.lemmas.Fmt.{decimal_by_steps, decimal_nonempty}
-use Rattle.std.proofs.Math.Nat.{pow-le-pow_right, two-pow-succ}
-use Rattle.ir_core.specs.declared.types.Ty.{Ty}
-use Rattle.ir_core.specs.declared.types.Ty.TheVariants.{Void, Int as IntTy, Ptr}
+use Rattle.std.proofs.Common.{mod-eq_of_lt, ◌≡◌, ℕ, zero, suc, ◌+◌, ◌-◌, ◌*◌, ◌/◌, ◌%◌, ◌^◌, ◌≤◌, ◌<◌, List, [], ◌∷◌, ◌++◌, Bool, true, false, refl, sym, ap, ◌∙◌, arith, decimal, ◌==◌}
+use Rattle.std.proofs.lemmas.Bool.{lt-ltb, le-leb, eqb-true}
+use Rattle.std.proofs.lemmas.Fmt.{decimal_by_steps}
+use Rattle.ir_core.specs.declared.types.Ty.TheVariants.{Int as IntTy}
 use Rattle.ir_core.specs.Bytes.{digit_byte, every}
-use Rattle.ir_core.proofs.Lexing.{every_first}
+use Rattle.ir_core.proofs.Lexing.{every_first, every_more, every_append}
 use Rattle.ir_core.proofs.Printed.{if_true, if_false}
-use Rattle.ir_core.specs.Numbers.{value_from, value_of, is_negative, begins_with, magnitude, fits, modulo, is_number_in_range, kept_at}
+use Rattle.ir_core.specs.Numbers.{value_from, value_of, is_negative, magnitude, fits, modulo, is_number_in_range, kept_at}
 
 -- ---- the digits of a number, and what they spell
 
@@ -35,14 +33,10 @@ digit_of (suc (suc (suc (suc (suc (suc (suc (suc zero)))))))) h = refl
 digit_of (suc (suc (suc (suc (suc (suc (suc (suc (suc zero))))))))) h = refl
 digit_of (suc (suc (suc (suc (suc (suc (suc (suc (suc (suc n)))))))))) h = absurd (omega arith)
 
-every_append : (p : ℕ → Bool) (xs ys : List ℕ) → every p xs ≡ true → every p ys ≡ true → every p (xs ++ ys) ≡ true
-every_append p [] ys h k = k
-every_append p (x ∷ xs) ys h k = let e = every_first p x xs h in if_true _ _ _ e.0 ∙ every_append p xs ys e.1 k
-
 pub decimal_digits : (n : ℕ) → n < 2 ^ 64 → every digit_byte (decimal n) ≡ true
 decimal_digits n h = decimal_by_steps (λ n ds. every digit_byte ds ≡ true)
-  (λ n digit. if_true _ _ _ (digit_of n digit))
-  (λ n ds big below. every_append digit_byte ds ((48 + n % 10) ∷ []) below (if_true _ _ _ (digit_of (n % 10) (omega arith))))
+  (λ n digit. every_more digit_byte (48 + n) [] (digit_of n digit) refl)
+  (λ n ds big below. every_append digit_byte ds ((48 + n % 10) ∷ []) below (every_more digit_byte (48 + n % 10) [] (digit_of (n % 10) (omega arith)) refl))
   n h
 
 -- digits do not begin with a -

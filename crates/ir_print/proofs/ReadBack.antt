@@ -1,5 +1,5 @@
 -- A module of the first form is one that its canonical text gives back.
-use Rattle.std.proofs.Common.{◌≡◌, ℕ, ◌+◌, ◌-◌, ◌^◌, ◌≤◌, ◌<◌, List, [], ◌∷◌, ◌++◌, length, take, drop, map, Option, Some, None, Bool, true, false, cond, not, ◌&&◌, ◌==◌, nat_lt, refl, sym, ap, ◌∙◌, subst, inl, inr, append_assoc, codes, decimal, arith, take-append-drop, if◌then◌else◌}
+use Rattle.std.proofs.Common.{◌≡◌, ℕ, ◌-◌, ◌^◌, ◌≤◌, ◌<◌, List, [], ◌∷◌, ◌++◌, length, drop, map, Option, Some, None, Bool, true, false, cond, not, ◌&&◌, nat_lt, refl, sym, ap, ◌∙◌, subst, append_assoc, codes, decimal, arith, take-append-drop, if◌then◌else◌}
 use Rattle.std.specs.List.{flat_map, list_all}
 use Rattle.std.specs.Str.{bytes_eq}
 use Rattle.std.proofs.lemmas.Bool.{and_parts, and_from, eqb-true, lt-ltb}
@@ -23,15 +23,15 @@ use Rattle.ir_core.specs.declared.module.Function.{Function}
 use Rattle.ir_core.specs.declared.module.Param.{Param}
 use Rattle.ir_core.specs.declared.module.Block.{Block}
 use Rattle.ir_core.specs.EntryPoints.{target_init, target_deinit}
-use Rattle.ir_core.specs.FirstForm.{is_scalar, is_add_sub_or_mul, is_int_of, is_integer, is_ptr, is_void, is_number, is_null, is_register, is_function, is_null_ptr, is_constant, no_result, empty, is_init_operands, is_init_kind, is_minus_one, are_compared, is_test_kind, is_branch_kind, is_branch, by_test, by_init, is_entry, is_plain_access, is_user_kind, is_user_inst, is_deinit_operands, is_deinit_kind, is_deinit, is_return_kind, is_return, is_end, user_code, is_user, is_exit, are_kernel_blocks, is_scalar_param, is_kernel, are_init_params, are_deinit_params, is_bare_declaration, declares_init, declares_deinit, result_given, inst_given, block_given, param_given, label_given, given, name_of, type_in, is_type, is_given, is_number_of, is_value_of, is_well_typed, uses_well_typed, inst_well_typed, block_well_typed, has_good_names, is_well_formed, are_functions, only_functions, is_first_form, HasOutForm, HasFirstForm}
+use Rattle.ir_core.specs.FirstForm.{is_scalar, is_add_sub_or_mul, is_int_of, is_integer, is_ptr, is_void, is_number, is_null, is_register, is_function, is_null_ptr, is_constant, no_result, empty, is_init_operands, is_init_kind, is_minus_one, are_compared, is_test_kind, is_branch_kind, is_branch, by_test, by_init, is_entry, is_plain_access, is_user_kind, is_user_inst, is_deinit_operands, is_deinit_kind, is_deinit, is_return_kind, is_return, is_end, user_code, is_user, is_exit, are_kernel_blocks, is_scalar_param, is_kernel, are_init_params, are_deinit_params, is_bare_declaration, declares_init, declares_deinit, result_given, inst_given, block_given, param_given, label_given, given, name_of, type_in, is_type, is_given, is_number_of, is_value_of, is_well_typed, uses_well_typed, inst_well_typed, block_well_typed, is_well_formed, are_functions, only_functions, HasOutForm, HasFirstForm}
 use Rattle.ir_core.specs.FirstForm.{no_flags as has_no_flags}
 use Rattle.ir_core.specs.Grammar.{no_flags, numbered, of_functions}
 use Rattle.ir_core.specs.Tokens.{text_limit}
 use Rattle.ir_core.specs.Text.{is_word, Text}
 use Rattle.ir_core.specs.ReadsBack.{ReadsBack}
-use Rattle.ir_core.proofs.PrintedOperands.{is_result, GoodValue, GoodTyped}
-use Rattle.ir_core.proofs.PrintedInstructions.{AllTyped, GoodKind, gives_value, has_effect, ends_block, GoodResult, IsPlain, IsLast, GoodInst, GoodPlain, GoodLast}
-use Rattle.ir_core.proofs.PrintedFunctions.{AllPlain, GoodBlock, AllBlocks, AllScalar, AllNamed, type_of, GoodHeading, GoodFunction, defined, declared, AllFunctions, functions_back}
+use Rattle.ir_print.proofs.PrintedOperands.{is_result, GoodValue, GoodTyped}
+use Rattle.ir_print.proofs.PrintedInstructions.{AllTyped, GoodKind, gives_value, has_effect, ends_block, GoodResult, IsPlain, IsLast, GoodInst, GoodPlain, GoodLast}
+use Rattle.ir_print.proofs.PrintedFunctions.{AllPlain, GoodBlock, AllBlocks, AllScalar, AllNamed, type_of, GoodHeading, GoodFunction, defined, declared, AllFunctions, functions_back}
 
 -- ---- what single tests say
 
@@ -472,3 +472,7 @@ reads_back m h =
 -- the same of a module that came in
 pub first_reads_back : (m : Module) → HasFirstForm m → length (Text m) ≤ text_limit → ReadsBack (Text m) m
 first_reads_back m h = reads_back m (true, h)
+
+-- the same of a text that is known to be the canonical one
+pub text_reads_back : (m : Module) (text : List ℕ) → text ≡ Text m → HasOutForm m → length text ≤ text_limit → ReadsBack text m
+text_reads_back m text e h = subst (λ t. length t ≤ text_limit → ReadsBack t m) (sym e) (reads_back m h)
