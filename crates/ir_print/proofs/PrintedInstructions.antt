@@ -29,6 +29,7 @@ abbrev pub AllTyped : List Typed → Type 0
 AllTyped [] = Unit {0}
 AllTyped (v ∷ vs) = GoodTyped v × AllTyped vs
 
+-- an instruction of the grammar, with good operands and names
 abbrev pub GoodKind : Kind → Type 0
 GoodKind (Bin op flags ty a b) = (is_add_sub_or_mul op ≡ true) × (flags ≡ no_flags) × (is_scalar ty ≡ true) × GoodValue ty a × GoodValue ty b
 GoodKind (ICmp Eq ty a b) = (is_scalar ty ≡ true) × GoodValue ty a × GoodValue ty b
@@ -40,6 +41,7 @@ GoodKind (CondBr cond then_to else_to) = GoodTyped cond × (is_word then_to ≡ 
 GoodKind (Ret None) = Unit {0}
 GoodKind _ = ⊥
 
+-- what can stand behind %x =
 abbrev pub gives_value : Kind → Bool
 gives_value (Bin op flags ty a b) = true
 gives_value (ICmp pred ty a b) = true
@@ -47,11 +49,13 @@ gives_value (Load ty at order align) = true
 gives_value (Call tail_word ret callee args) = true
 gives_value _ = false
 
+-- what can stand alone
 abbrev pub has_effect : Kind → Bool
 has_effect (Store v at order align) = true
 has_effect (Call tail_word ret callee args) = true
 has_effect _ = false
 
+-- what can end a block
 abbrev pub ends_block : Kind → Bool
 ends_block (Br to) = true
 ends_block (CondBr cond then_to else_to) = true
@@ -66,6 +70,7 @@ target_bare b = bare Word (codes "label") ∷ local_bare b ∷ []
 abbrev pub call_bare : Ty → Value → List Typed → List Bare
 call_bare ret callee args = type_bare ret ∷ value_bare ret callee ∷ bare (Mark 40) (40 ∷ []) ∷ listed 41 typed_bare args
 
+-- the tokens of an instruction behind its result
 abbrev pub kind_bare : Kind → List Bare
 kind_bare (Bin op flags ty a b) = bare Word (bin_op_text op) ∷ type_bare ty ∷ value_bare ty a ∷ comma ∷ value_bare ty b ∷ []
 kind_bare (ICmp pred ty a b) = bare Word (codes "icmp") ∷ bare Word (pred_text pred) ∷ type_bare ty ∷ value_bare ty a ∷ comma ∷ value_bare ty b ∷ []
@@ -77,6 +82,7 @@ kind_bare (CondBr cond then_to else_to) = bare Word (codes "br") ∷ (typed_bare
 kind_bare (Ret v) = bare Word (codes "ret") ∷ bare Word (codes "void") ∷ []
 kind_bare _ = []
 
+-- %x =
 abbrev pub result_bare : Option (List ℕ) → List Bare
 result_bare None = []
 result_bare (Some x) = local_bare x ∷ bare (Mark 61) (61 ∷ []) ∷ []
@@ -86,6 +92,7 @@ inst_bare i = result_bare i.result ++ kind_bare i.kind
 
 -- ---- the text has the tokens
 
+-- an operation's word
 op_word : (op : BinOp) → is_add_sub_or_mul op ≡ true → is_word (bin_op_text op) ≡ true
 op_word Add h = refl
 op_word Sub h = refl
@@ -126,6 +133,7 @@ gives_target b h = closes_gives (closes_word (codes "label") refl) (gives_local 
 branch_gives : (cond : Typed) (then_to else_to : List ℕ) → GoodKind (CondBr cond then_to else_to) → Gives (kind_text (CondBr cond then_to else_to)) (kind_bare (CondBr cond then_to else_to))
 branch_gives cond then_to else_to g = closes_gives (gives_closes (closes_gives (gives_closes (closes_gives (closes_word (codes "br") refl) (gives_typed cond g.0)) closes_comma (λ rest. refl)) (gives_target then_to g.1)) closes_comma (λ rest. refl)) (gives_target else_to g.2)
 
+-- the text of an instruction has its tokens
 pub kind_gives : (k : Kind) → GoodKind k → Gives (kind_text k) (kind_bare k)
 kind_gives (Bin op flags ty a b) g = subst (λ f. Gives (kind_text (Bin op f ty a b)) (kind_bare (Bin op f ty a b))) (sym g.1) (bin_gives op ty a b (g.0, refl, g.2, g.3, g.4))
 kind_gives (ICmp Eq ty a b) g = pair_gives ty a b (closes_then (closes_word (codes "icmp") refl) (closes_word (codes "eq") refl)) g.0 g.1 g.2
@@ -139,6 +147,7 @@ kind_gives _ g = absurd g
 
 -- ---- the tokens spell the kind
 
+-- operands and targets behind their commas
 spelled_next_typed : (v : Typed) → GoodTyped v → Spelled next_typed (comma ∷ typed_bare v) (λ x. x ≡ v)
 spelled_next_typed v h = token_then (shows_mark 44) (λ line u. typed_spelled v h)
 
@@ -151,6 +160,7 @@ spelled_target b = token_then (shows_word (codes "label")) (λ line u. spelled_o
 spelled_next_target : (b : List ℕ) → Spelled next_target (comma ∷ target_bare b) (λ x. x ≡ b)
 spelled_next_target b = token_then (shows_mark 44) (λ line u. spelled_target b)
 
+-- an operation's word is in the table
 op_in : (op : BinOp) → is_add_sub_or_mul op ≡ true → InTable value_words (bin_op_text op) (Binary op)
 op_in Add h = inl (refl, refl)
 op_in Sub h = inr (inl (refl, refl))
@@ -185,6 +195,7 @@ call_spelled ret callee args g =
     token_same (shows_result ret g.0) (token_same (shows_global callee) (token_then (shows_mark 40) (λ line u.
       spelled_as (append-nil (listed 41 typed_bare args)) (spelled_same {ls = listed 41 typed_bare args} {ms = []} {v = args} {Q = λ x. x ≡ Call Absent ret (GlobalValue callee) args} (spelled_list_same 41 typed typed_bare args (each_spelled args g.2)) (spelled_done (Call Absent ret (GlobalValue callee) args) (λ x. x ≡ Call Absent ret (GlobalValue callee) args) refl)))))
 
+-- what stands behind %x = is spelled by its tokens
 pub value_spelled : (k : Kind) → GoodKind k → gives_value k ≡ true → Spelled value (kind_bare k) (λ x. x ≡ k)
 value_spelled (Bin op flags ty a b) g h = subst (λ f. Spelled value (kind_bare (Bin op f ty a b)) (λ x. x ≡ Bin op f ty a b)) (sym g.1) (bin_spelled op ty a b (g.0, refl, g.2, g.3, g.4))
 value_spelled (ICmp Eq ty a b) g h = icmp_spelled ty a b g
@@ -212,6 +223,7 @@ abbrev pub IsLast : Option (List ℕ) → Kind → Type 0
 IsLast None k = ends_block k ≡ true
 IsLast (Some x) k = ⊥
 
+-- an instruction with its result
 pub record GoodInst (i : Inst) : Type 0 where
   pub result : GoodResult i.result
   pub kind : GoodKind i.kind
@@ -227,10 +239,12 @@ pub record GoodLast (i : Inst) : Type 0 where
 equals_closes : Closes (codes " = ") (bare (Mark 61) (61 ∷ []) ∷ [])
 equals_closes = closes_then closes_space (closes_then (closes_mark 61 refl) closes_space)
 
+-- the spaces before an instruction, and its result
 result_closes : (r : Option (List ℕ)) → GoodResult r → Closes (codes "  " ++ result_text r) (result_bare r)
 result_closes None h = closes_then closes_space closes_space
 result_closes (Some x) h = closes_then (closes_then closes_space closes_space) (gives_closes (gives_local x h) equals_closes (λ rest. refl))
 
+-- the line of an instruction has its tokens
 pub inst_closes : (i : Inst) → GoodInst i → Closes (inst_text i) (inst_bare i)
 inst_closes i g = closes_as (append-nil (inst_bare i)) (gives_closes (closes_gives (result_closes i.result g.result) (kind_gives i.kind g.kind)) closes_line (λ rest. refl))
 
@@ -238,6 +252,7 @@ inst_closes i g = closes_as (append-nil (inst_bare i)) (gives_closes (closes_giv
 abbrev SameUnlined : Option (List ℕ) → Kind → Inst → Type 0
 SameUnlined r k n = ◌≡◌ {A = Inst} (record { result = r; kind = k; line = 0 }) (inst_unlined n)
 
+-- %x = and what gives the value
 assign_spelled : (x : List ℕ) (k : Kind) → GoodKind k → gives_value k ≡ true → Spelled plain (result_bare (Some x) ++ kind_bare k) (SameUnlined (Some x) k)
 assign_spelled x k g h =
     spelled_any Assigns (token_then (shows_line (shows_local x)) (λ y p. token_then (shows_mark 61) (λ line u.
@@ -259,6 +274,7 @@ bare_call_spelled ret callee args g =
       spelled_as (append-nil l) (spelled_same {ls = l} {ms = []} {v = k} {Q = SameUnlined None k} (call_spelled ret callee args g)
         (spelled_done (record { result = None; kind = k; line = line }) (SameUnlined None k) refl))))
 
+-- an instruction without a result
 effect_spelled : (k : Kind) → GoodKind k → has_effect k ≡ true → Spelled plain (kind_bare k) (SameUnlined None k)
 effect_spelled (Store v at None align) g h = subst (λ n. Spelled plain (kind_bare (Store v at None n)) (SameUnlined None (Store v at None n))) (sym g.2) (store_spelled v at (g.0, g.1, refl))
 effect_spelled (Call Absent ret (GlobalValue callee) args) g h = bare_call_spelled ret callee args g
@@ -274,6 +290,7 @@ plain_by : (r : Option (List ℕ)) (k : Kind) → GoodKind k → IsPlain r k →
 plain_by None k g h = effect_spelled k g h
 plain_by (Some x) k g h = assign_spelled x k g h
 
+-- an instruction that ends no block is spelled by its tokens, but for its line
 pub plain_spelled : (i : Inst) → GoodPlain i → Spelled plain (inst_bare i) (λ n. inst_unlined i ≡ inst_unlined n)
 plain_spelled i g = plain_by i.result i.kind g.good.kind g.shape
 
@@ -295,6 +312,7 @@ branch_spelled k ls s =
       spelled_as (append-nil ls) (spelled_same {ls = ls} {ms = []} {v = k} {Q = SameUnlined None k} s
         (spelled_done (record { result = None; kind = k; line = line }) (SameUnlined None k) refl))))
 
+-- what ends a block
 end_spelled : (k : Kind) → GoodKind k → ends_block k ≡ true → Spelled (any last_of) (kind_bare k) (SameUnlined None k)
 end_spelled (Br to) g h = branch_spelled (Br to) (target_bare to) (br_spelled to)
 end_spelled (CondBr cond then_to else_to) g h = branch_spelled (CondBr cond then_to else_to) (typed_bare cond ++ comma ∷ (target_bare then_to ++ comma ∷ target_bare else_to)) (cond_spelled cond then_to else_to g.0)
@@ -310,5 +328,6 @@ last_by : (r : Option (List ℕ)) (k : Kind) → GoodKind k → IsLast r k → S
 last_by None k g h = end_spelled k g h
 last_by (Some x) k g h = absurd h
 
+-- the last instruction of a block is spelled by its tokens, but for its line
 pub last_spelled : (i : Inst) → GoodLast i → Spelled (any last_of) (inst_bare i) (λ n. inst_unlined i ≡ inst_unlined n)
 last_spelled i g = last_by i.result i.kind g.good.kind g.shape
