@@ -40,7 +40,7 @@ every_parts p c cs false e h = let f : false ≡ true = sym (ap (λ (b : Bool). 
 pub every_first : (p : ℕ → Bool) (c : ℕ) (cs : List ℕ) → every p (c ∷ cs) ≡ true → (p c ≡ true) × (every p cs ≡ true)
 every_first p c cs h = every_parts p c cs (p c) refl h
 
-every_more : (p : ℕ → Bool) (c : ℕ) (cs : List ℕ) → p c ≡ true → every p cs ≡ true → every p (c ∷ cs) ≡ true
+pub every_more : (p : ℕ → Bool) (c : ℕ) (cs : List ℕ) → p c ≡ true → every p cs ≡ true → every p (c ∷ cs) ≡ true
 every_more p c cs e h = ap (λ (b : Bool). cond b (every p cs) false) e ∙ h
 
 -- a front of such bytes is no longer than the run
@@ -81,7 +81,7 @@ run_wider p q w (c ∷ cs) = wider_by p q c cs (w c) (run_wider p q w cs) (p c) 
 
 -- ---- digits are bytes of words
 
-digit_class : (a : Class) → is_digit_class a ≡ true → a ≡ Digit
+pub digit_class : (a : Class) → is_digit_class a ≡ true → a ≡ Digit
 digit_class Digit e = refl
 digit_class Blank e = cc
 digit_class Semicolon e = cc
@@ -612,7 +612,7 @@ stem_no_end xs (inl (inl r, n)) = led_no_end Letter (Each word_byte) xs r (λ f.
 stem_no_end xs (inl (inr r, n)) = led_no_end Dash (Each word_byte) xs r (λ f. cc) (λ ys h. each_no_end word_byte ys refl h)
 stem_no_end xs (inr r) = digits_no_end xs r
 
-every_append : (p : ℕ → Bool) (xs ys : List ℕ) → every p xs ≡ true → every p ys ≡ true → every p (xs ++ ys) ≡ true
+pub every_append : (p : ℕ → Bool) (xs ys : List ℕ) → every p xs ≡ true → every p ys ≡ true → every p (xs ++ ys) ≡ true
 every_append p [] ys h k = k
 every_append p (x ∷ xs) ys h k = let e = every_first p x xs h in every_more p x (xs ++ ys) e.0 (every_append p xs ys e.1 k)
 

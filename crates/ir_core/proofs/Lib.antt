@@ -2,8 +2,3 @@ pub mod Lexing
 pub mod Off
 pub mod Printed
 pub mod Spelled
-pub mod PrintedNumbers
-pub mod PrintedOperands
-pub mod PrintedInstructions
-pub mod PrintedFunctions
-pub mod PrintedFirstForm

@@ -7,7 +7,7 @@ use Rattle.ir_core.specs.Bytes.{Class, Blank, Semicolon, Bracket, Digit, Dash, L
 use Rattle.ir_core.specs.Tokens.{TokenKind, Word, Local, Global, Label, Number, Mark, Bad, Token, Piece, IsLongest, Pieces, kept, tokens_from, line_at, text_limit, past_limit, with_past, Lexes, Lexeme, lexeme_of, lexemes, has_bad}
 use Rattle.ir_core.specs.Scan.{run, class_at, piece, bad_piece, is_number_tail, name_size, stem_size, by_colon, by_name, by_tail, by_class, piece_at}
 use Rattle.ir_core.specs.Text.{is_word, is_word_from, is_numeral, is_numeral_from, comma_list}
-use Rattle.ir_core.proofs.Lexing.{run_in, run_ended, run_front, run_fits, every_first, digits_in_word, tail_true, tail_made, name_made, not_bad}
+use Rattle.ir_core.proofs.Lexing.{run_ended, run_front, every_first, every_more, digit_class, tail_true, tail_made, name_made, not_bad}
 
 -- a token without its place and its line
 pub record Bare : Type 0 where
@@ -17,6 +17,7 @@ pub record Bare : Type 0 where
 abbrev pub bare : TokenKind → List ℕ → Bare
 bare kind bytes = record { kind = kind; bytes = bytes }
 
+-- a token of a text, without its line
 abbrev pub bare_of : Lexeme → Bare
 bare_of t = bare t.kind t.bytes
 
@@ -24,6 +25,7 @@ abbrev pub bare_kept : Option TokenKind → List ℕ → List Bare
 bare_kept None bytes = []
 bare_kept (Some kind) bytes = bare kind bytes ∷ []
 
+-- the tokens of pieces, one piece behind the other
 abbrev pub bare_from : List ℕ → List Piece → List Bare
 bare_from text [] = []
 bare_from text (p ∷ ps) = bare_kept p.kind (take p.size text) ++ bare_from (drop p.size text) ps
@@ -34,6 +36,7 @@ pub record Lexed (text : List ℕ) (ls : List Bare) : Type 0 where
   pub make_up : Pieces text pieces
   pub tokens : bare_from text pieces ≡ ls
 
+-- nothing is left
 pub lexed_end : Lexed [] []
 lexed_end = record { pieces = []; make_up = refl; tokens = refl }
 
@@ -45,6 +48,7 @@ front_taken front rest = take_at front rest (length front) refl
 front_dropped : (front rest : List ℕ) → drop (length front) (front ++ rest) ≡ rest
 front_dropped front rest = drop_at front rest (length front) refl
 
+-- a piece at the front, where the rest is known
 pub piece_more : (kind : Option TokenKind) (front rest : List ℕ) (ls : List Bare) → 0 < length front → piece_at (front ++ rest) ≡ piece kind (length front) → (kind ≡ Some Bad → ⊥) → Lexed rest ls → Lexed (front ++ rest) (bare_kept kind front ++ ls)
 piece_more kind front rest ls some e good r =
     let l = length-append front rest in
@@ -71,6 +75,7 @@ ends (c ∷ cs) = ends_class (class_of c)
 abbrev pub Ends : List ℕ → Type 0
 Ends rest = ends rest ≡ true
 
+-- such a byte is in no word and in no number
 ends_word : (a : Class) → ends_class a ≡ true → (is_word_class a ≡ false) × (is_digit_class a ≡ false)
 ends_word Letter e = absurd (let f : false ≡ true = e in cc)
 ends_word Digit e = absurd (let f : false ≡ true = e in cc)
@@ -94,6 +99,7 @@ run_to p ws c rest kind h k a e m q g =
 
 -- ---- words
 
+-- a test whose outcome is known
 pub if_true : {A : Type 0} (b : Bool) (x y : A) → b ≡ true → cond b x y ≡ x
 if_true b x y e = ap (λ t. cond t x y) e
 
@@ -125,6 +131,7 @@ no_tail_by ws c rest h n k true e =
     let f : true ≡ false = sym (digits_numeral ws (omega arith) (run_front digit_byte ws (c ∷ rest) (omega arith))) ∙ n in
     absurd (cc)
 
+-- what is behind the - of a word is no tail of a number
 no_tail : (ws : List ℕ) (c : ℕ) (rest : List ℕ) → every word_byte ws ≡ true → is_numeral ws ≡ false → word_byte c ≡ false → is_number_tail (ws ++ c ∷ rest) ≡ false
 no_tail ws c rest h n k = no_tail_by ws c rest h n k (is_number_tail (ws ++ c ∷ rest)) refl
 
@@ -154,6 +161,7 @@ word_some (b ∷ ws) h = omega arith
 
 -- ---- tokens, by what comes behind them
 
+-- a word
 pub word_lexed : (w rest : List ℕ) (ls : List Bare) → is_word w ≡ true → Ends rest → Lexed rest ls → Lexed (w ++ rest) (bare Word w ∷ ls)
 word_lexed [] rest ls h e r = absurd (let f : false ≡ true = h in cc)
 word_lexed (b ∷ ws) [] ls h e r = absurd (let f : false ≡ true = e in cc)
@@ -182,25 +190,14 @@ pub global_lexed : (w rest : List ℕ) (ls : List Bare) → is_word w ≡ true �
 global_lexed w rest ls h e r = piece_more (Some Global) (64 ∷ w) rest ls (omega arith) (sign_piece Global w rest h e) (λ f. cc) r
 
 -- digits, and digits behind a -
-digit_class : (a : Class) → is_digit_class a ≡ true → a ≡ Digit
-digit_class Digit e = refl
-digit_class Blank e = cc
-digit_class Semicolon e = cc
-digit_class Bracket e = cc
-digit_class Dash e = cc
-digit_class Letter e = cc
-digit_class Percent e = cc
-digit_class AtSign e = cc
-digit_class Colon e = cc
-digit_class Other e = cc
-
 word_digit : (c : ℕ) → digit_byte c ≡ true → word_byte c ≡ true
 word_digit c e = ap is_word_class (digit_class (class_of c) e)
 
 every_word : (ds : List ℕ) → every digit_byte ds ≡ true → every word_byte ds ≡ true
 every_word [] h = refl
-every_word (d ∷ ds) h = let e = every_first digit_byte d ds h in if_true _ _ _ (word_digit d e.0) ∙ every_word ds e.1
+every_word (d ∷ ds) h = let e = every_first digit_byte d ds h in every_more word_byte d ds (word_digit d e.0) (every_word ds e.1)
 
+-- digits as a number
 pub number_lexed : (ds rest : List ℕ) (ls : List Bare) → 0 < length ds → every digit_byte ds ≡ true → Ends rest → Lexed rest ls → Lexed (ds ++ rest) (bare Number ds ∷ ls)
 number_lexed [] rest ls l h e r = absurd (omega arith)
 number_lexed (d ∷ ds) [] ls l h e r = absurd (let f : false ≡ true = e in cc)
@@ -209,6 +206,7 @@ number_lexed (d ∷ ds) (c ∷ rest) ls l h e r =
     let p : piece_at ((d ∷ ds) ++ c ∷ rest) ≡ piece (Some Number) (suc (length ds)) = ap (λ a. by_class a d (ds ++ c ∷ rest)) (digit_class (class_of d) k.0) ∙ run_to digit_byte ds c rest Number k.1 (ends_word (class_of c) e).1 (class_of c) refl (suc (length ds)) Number (no_colon Number (class_of c) (suc (length ds)) e) in
     piece_more (Some Number) (d ∷ ds) (c ∷ rest) ls (omega arith) p (λ f. cc) r
 
+-- digits behind a - as a number
 pub minus_lexed : (ds rest : List ℕ) (ls : List Bare) → 0 < length ds → every digit_byte ds ≡ true → Ends rest → Lexed rest ls → Lexed (45 ∷ (ds ++ rest)) (bare Number (45 ∷ ds) ∷ ls)
 minus_lexed ds [] ls l h e r = absurd (let f : false ≡ true = e in cc)
 minus_lexed ds (c ∷ rest) ls l h e r =
@@ -218,6 +216,7 @@ minus_lexed ds (c ∷ rest) ls l h e r =
     let p : piece_at ((45 ∷ ds) ++ c ∷ rest) ≡ piece (Some Number) (suc (length ds)) = ap (λ b. by_tail b (ds ++ c ∷ rest)) (tail_made (ds ++ c ∷ rest) (omega arith) (d ∙ sym w)) ∙ ap (λ n. piece (Some Number) (n + 1)) d ∙ ap (piece (Some Number)) (more (length ds)) in
     piece_more (Some Number) (45 ∷ ds) (c ∷ rest) ls (omega arith) p (λ f. cc) r
 
+-- a mark, and a blank
 pub mark_lexed : (m : ℕ) (rest : List ℕ) (ls : List Bare) → class_of m ≡ Bracket → Lexed rest ls → Lexed (m ∷ rest) (bare (Mark m) (m ∷ []) ∷ ls)
 mark_lexed m rest ls e r = piece_more (Some (Mark m)) (m ∷ []) rest ls (omega arith) (ap (λ a. by_class a m rest) e) (λ f. cc) r
 
@@ -229,10 +228,12 @@ blank_lexed c rest ls e r = piece_more None (c ∷ []) rest ls (omega arith) (ap
 bare_taken : (text : List ℕ) (at n : ℕ) → take (at + n - at) (drop at text) ≡ take n (drop at text)
 bare_taken text at n = ap (λ k. take k (drop at text)) (let z : at + n - at ≡ n = omega arith in z)
 
+-- the first token of a row
 bare_kept_first : (text : List ℕ) (at : ℕ) (kind : Option TokenKind) (n : ℕ) (ts : List Token) → map bare_of (lexemes text (kept text kind at (at + n) ++ ts)) ≡ bare_kept kind (take n (drop at text)) ++ map bare_of (lexemes text ts)
 bare_kept_first text at None n ts = refl
 bare_kept_first text at (Some kind) n ts = ap (λ t. bare kind t ∷ map bare_of (lexemes text ts)) (bare_taken text at n)
 
+-- the tokens of a text have the kinds and bytes that were found
 bare_tokens : (text : List ℕ) (at : ℕ) (ps : List Piece) → map bare_of (lexemes text (tokens_from text at ps)) ≡ bare_from (drop at text) ps
 bare_tokens text at [] = refl
 bare_tokens text at (p ∷ ps) = bare_kept_first text at p.kind p.size (tokens_from text (at + p.size) ps) ∙ ap (λ t. bare_kept p.kind (take p.size (drop at text)) ++ t) (bare_tokens text (at + p.size) ps ∙ ap (λ t. bare_from t ps) (sym (drop-drop p.size at text)))
@@ -255,20 +256,22 @@ pub record Gives (text : List ℕ) (ls : List Bare) : Type 0 where
 abbrev pub comma : Bare
 comma = bare (Mark 44) (44 ∷ [])
 
+-- a comma and the space behind it
 pub comma_lexed : (rest : List ℕ) (ls : List Bare) → Lexed rest ls → Lexed (44 ∷ 32 ∷ rest) (comma ∷ ls)
 comma_lexed rest ls r = mark_lexed 44 (32 ∷ rest) ls refl (blank_lexed 32 rest ls refl r)
 
 abbrev pub led_by_comma : {X : Type 0} → (X → List Bare) → X → List Bare
-led_by_comma toks x = comma ∷ toks x
+led_by_comma tokens x = comma ∷ tokens x
 
 -- a list with commas up to its closing mark
 abbrev pub listed : {X : Type 0} → ℕ → (X → List Bare) → List X → List Bare
-listed close toks [] = bare (Mark close) (close ∷ []) ∷ []
-listed close toks (x ∷ xs) = toks x ++ (flat_map (led_by_comma toks) xs ++ bare (Mark close) (close ∷ []) ∷ [])
+listed close tokens [] = bare (Mark close) (close ∷ []) ∷ []
+listed close tokens (x ∷ xs) = tokens x ++ (flat_map (led_by_comma tokens) xs ++ bare (Mark close) (close ∷ []) ∷ [])
 
+-- each of a list is printed as its tokens
 abbrev pub EachGives : {X : Type 0} → (X → List ℕ) → (X → List Bare) → List X → Type 0
-EachGives show toks [] = Unit {0}
-EachGives show toks (x ∷ xs) = Gives (show x) (toks x) × EachGives show toks xs
+EachGives show tokens [] = Unit {0}
+EachGives show tokens (x ∷ xs) = Gives (show x) (tokens x) × EachGives show tokens xs
 
 abbrev pub led : List ℕ → List ℕ
 led part = codes ", " ++ part
@@ -278,16 +281,18 @@ led_ends : {X : Type 0} (show : X → List ℕ) (xs : List X) (rest : List ℕ) 
 led_ends show [] rest e = e
 led_ends show (x ∷ xs) rest e = refl
 
-led_lexed : {X : Type 0} (show : X → List ℕ) (toks : X → List Bare) (xs : List X) (rest : List ℕ) (ls : List Bare) → EachGives show toks xs → Ends rest → Lexed rest ls → Lexed (flat_map led (map show xs) ++ rest) (flat_map (led_by_comma toks) xs ++ ls)
-led_lexed show toks [] rest ls h e r = r
-led_lexed show toks (x ∷ xs) rest ls h e r =
-    simp append_assoc (comma_lexed (show x ++ (flat_map led (map show xs) ++ rest)) (toks x ++ (flat_map (led_by_comma toks) xs ++ ls)) (h.0.before (flat_map led (map show xs) ++ rest) (flat_map (led_by_comma toks) xs ++ ls) (led_ends show xs rest e) (led_lexed show toks xs rest ls h.1 e r)))
+-- the others of a list, each behind its comma
+led_lexed : {X : Type 0} (show : X → List ℕ) (tokens : X → List Bare) (xs : List X) (rest : List ℕ) (ls : List Bare) → EachGives show tokens xs → Ends rest → Lexed rest ls → Lexed (flat_map led (map show xs) ++ rest) (flat_map (led_by_comma tokens) xs ++ ls)
+led_lexed show tokens [] rest ls h e r = r
+led_lexed show tokens (x ∷ xs) rest ls h e r =
+    simp append_assoc (comma_lexed (show x ++ (flat_map led (map show xs) ++ rest)) (tokens x ++ (flat_map (led_by_comma tokens) xs ++ ls)) (h.0.before (flat_map led (map show xs) ++ rest) (flat_map (led_by_comma tokens) xs ++ ls) (led_ends show xs rest e) (led_lexed show tokens xs rest ls h.1 e r)))
 
-pub list_lexed : {X : Type 0} (close : ℕ) (show : X → List ℕ) (toks : X → List Bare) (xs : List X) (rest : List ℕ) (ls : List Bare) → class_of close ≡ Bracket → EachGives show toks xs → Lexed rest ls → Lexed (comma_list (map show xs) ++ close ∷ rest) (listed close toks xs ++ ls)
-list_lexed close show toks [] rest ls c h r = mark_lexed close rest ls c r
-list_lexed close show toks (x ∷ xs) rest ls c h r =
+-- a list with commas, and its closing mark
+pub list_lexed : {X : Type 0} (close : ℕ) (show : X → List ℕ) (tokens : X → List Bare) (xs : List X) (rest : List ℕ) (ls : List Bare) → class_of close ≡ Bracket → EachGives show tokens xs → Lexed rest ls → Lexed (comma_list (map show xs) ++ close ∷ rest) (listed close tokens xs ++ ls)
+list_lexed close show tokens [] rest ls c h r = mark_lexed close rest ls c r
+list_lexed close show tokens (x ∷ xs) rest ls c h r =
     let e : Ends (close ∷ rest) = ap ends_class c in
-    simp append_assoc (h.0.before (flat_map led (map show xs) ++ close ∷ rest) (flat_map (led_by_comma toks) xs ++ bare (Mark close) (close ∷ []) ∷ ls) (led_ends show xs (close ∷ rest) e) (led_lexed show toks xs (close ∷ rest) (bare (Mark close) (close ∷ []) ∷ ls) h.1 e (mark_lexed close rest ls c r)))
+    simp append_assoc (h.0.before (flat_map led (map show xs) ++ close ∷ rest) (flat_map (led_by_comma tokens) xs ++ bare (Mark close) (close ∷ []) ∷ ls) (led_ends show xs (close ∷ rest) e) (led_lexed show tokens xs (close ∷ rest) (bare (Mark close) (close ∷ []) ∷ ls) h.1 e (mark_lexed close rest ls c r)))
 
 -- ---- texts one behind the other
 
@@ -295,6 +300,7 @@ list_lexed close show toks (x ∷ xs) rest ls c h r =
 pub record Closes (text : List ℕ) (ls : List Bare) : Type 0 where
   pub before : (rest : List ℕ) (ms : List Bare) → Lexed rest ms → Lexed (text ++ rest) (ls ++ ms)
 
+-- two texts and what comes behind them
 regroup : (a b rest : List ℕ) (la lb ms : List Bare) → Lexed (a ++ (b ++ rest)) (la ++ (lb ++ ms)) → Lexed ((a ++ b) ++ rest) ((la ++ lb) ++ ms)
 regroup a b rest la lb ms r = subst (λ t. Lexed t ((la ++ lb) ++ ms)) (sym (append_assoc a b rest)) (subst (Lexed (a ++ (b ++ rest))) (sym (append_assoc la lb ms)) r)
 
@@ -302,33 +308,38 @@ regroup a b rest la lb ms r = subst (λ t. Lexed t ((la ++ lb) ++ ms)) (sym (app
 pub closes_as : {a : List ℕ} {ls ms : List Bare} → ls ≡ ms → Closes a ls → Closes a ms
 closes_as {a} e x = subst (Closes a) e x
 
+-- no text
 pub gives_none : Gives [] []
 gives_none = record { before = λ rest ms e r. r }
 
 pub gives_of : {a : List ℕ} {la : List Bare} → Closes a la → Gives a la
 gives_of x = record { before = λ rest ms e r. x.before rest ms r }
 
+-- a text behind one that must be ended
 pub gives_then : {a b : List ℕ} {la lb : List Bare} → Gives a la → Gives b lb → ((rest : List ℕ) → Ends rest → Ends (b ++ rest)) → Gives (a ++ b) (la ++ lb)
 gives_then {a} {b} {la} {lb} x y s = record { before = λ rest ms e r. regroup a b rest la lb ms (x.before (b ++ rest) (lb ++ ms) (s rest e) (y.before rest ms e r)) }
 
+-- the same, where what comes behind both does not matter
 pub gives_closes : {a b : List ℕ} {la lb : List Bare} → Gives a la → Closes b lb → ((rest : List ℕ) → Ends (b ++ rest)) → Closes (a ++ b) (la ++ lb)
 gives_closes {a} {b} {la} {lb} x y s = record { before = λ rest ms r. regroup a b rest la lb ms (x.before (b ++ rest) (lb ++ ms) (s rest) (y.before rest ms r)) }
 
+-- a text behind one that needs no end
 pub closes_gives : {a b : List ℕ} {la lb : List Bare} → Closes a la → Gives b lb → Gives (a ++ b) (la ++ lb)
 closes_gives {a} {b} {la} {lb} x y = record { before = λ rest ms e r. regroup a b rest la lb ms (x.before (b ++ rest) (lb ++ ms) (y.before rest ms e r)) }
 
 pub closes_then : {a b : List ℕ} {la lb : List Bare} → Closes a la → Closes b lb → Closes (a ++ b) (la ++ lb)
 closes_then {a} {b} {la} {lb} x y = record { before = λ rest ms r. regroup a b rest la lb ms (x.before (b ++ rest) (lb ++ ms) (y.before rest ms r)) }
 
+-- each of a list is printed as its tokens, whatever comes behind it
 abbrev pub EachCloses : {X : Type 0} → (X → List ℕ) → (X → List Bare) → List X → Type 0
-EachCloses show toks [] = Unit {0}
-EachCloses show toks (x ∷ xs) = Closes (show x) (toks x) × EachCloses show toks xs
+EachCloses show tokens [] = Unit {0}
+EachCloses show tokens (x ∷ xs) = Closes (show x) (tokens x) × EachCloses show tokens xs
 
-pub closes_many : {X : Type 0} (show : X → List ℕ) (toks : X → List Bare) (xs : List X) → EachCloses show toks xs → Closes (flat_map show xs) (flat_map toks xs)
-closes_many show toks [] h = record { before = λ rest ms r. r }
-closes_many show toks (x ∷ xs) h = closes_then h.0 (closes_many show toks xs h.1)
+pub closes_many : {X : Type 0} (show : X → List ℕ) (tokens : X → List Bare) (xs : List X) → EachCloses show tokens xs → Closes (flat_map show xs) (flat_map tokens xs)
+closes_many show tokens [] h = record { before = λ rest ms r. r }
+closes_many show tokens (x ∷ xs) h = closes_then h.0 (closes_many show tokens xs h.1)
 
--- blanks, a comma, a mark, a word with its space, and a word with its colon
+-- blanks, a comma, a mark, and a word with its space
 pub closes_blank : (c : ℕ) → class_of c ≡ Blank → Closes (c ∷ []) []
 closes_blank c e = record { before = λ rest ms r. blank_lexed c rest ms e r }
 
@@ -350,13 +361,10 @@ gives_word w h = record { before = λ rest ms e r. word_lexed w rest ms h e r }
 pub closes_word : (w : List ℕ) → is_word w ≡ true → Closes (w ++ codes " ") (bare Word w ∷ [])
 closes_word w h = gives_closes (gives_word w h) closes_space (λ rest. refl)
 
-pub closes_label : (w : List ℕ) → is_word w ≡ true → Closes (w ++ codes ":") (bare Label (w ++ codes ":") ∷ [])
-closes_label w h = record { before = λ rest ms r. subst (λ t. Lexed t (bare Label (w ++ codes ":") ∷ ms)) (sym (append_assoc w (codes ":") rest)) (label_lexed w rest ms h r) }
-
 -- a list with commas and its closing mark
-pub closes_list : {X : Type 0} (close : ℕ) (show : X → List ℕ) (toks : X → List Bare) (xs : List X) → class_of close ≡ Bracket → EachGives show toks xs → Closes (comma_list (map show xs) ++ close ∷ []) (listed close toks xs)
-closes_list close show toks xs c h = record { before = λ rest ms r. subst (λ t. Lexed t (listed close toks xs ++ ms)) (sym (append_assoc (comma_list (map show xs)) (close ∷ []) rest)) (list_lexed close show toks xs rest ms c h r) }
+pub closes_list : {X : Type 0} (close : ℕ) (show : X → List ℕ) (tokens : X → List Bare) (xs : List X) → class_of close ≡ Bracket → EachGives show tokens xs → Closes (comma_list (map show xs) ++ close ∷ []) (listed close tokens xs)
+closes_list close show tokens xs c h = record { before = λ rest ms r. subst (λ t. Lexed t (listed close tokens xs ++ ms)) (sym (append_assoc (comma_list (map show xs)) (close ∷ []) rest)) (list_lexed close show tokens xs rest ms c h r) }
 
 -- a text, a list with commas and its closing mark
-pub closes_with_list : {X : Type 0} {a : List ℕ} {la : List Bare} (close : ℕ) (show : X → List ℕ) (toks : X → List Bare) (xs : List X) → class_of close ≡ Bracket → Closes a la → EachGives show toks xs → Closes (a ++ comma_list (map show xs) ++ close ∷ []) (la ++ listed close toks xs)
-closes_with_list {a = a} {la = la} close show toks xs c x h = subst (λ t. Closes t (la ++ listed close toks xs)) (sym (append_assoc a (comma_list (map show xs)) (close ∷ []))) (closes_then x (closes_list close show toks xs c h))
+pub closes_with_list : {X : Type 0} {a : List ℕ} {la : List Bare} (close : ℕ) (show : X → List ℕ) (tokens : X → List Bare) (xs : List X) → class_of close ≡ Bracket → Closes a la → EachGives show tokens xs → Closes (a ++ comma_list (map show xs) ++ close ∷ []) (la ++ listed close tokens xs)
+closes_with_list {a = a} {la = la} close show tokens xs c x h = subst (λ t. Closes t (la ++ listed close tokens xs)) (sym (append_assoc a (comma_list (map show xs)) (close ∷ []))) (closes_then x (closes_list close show tokens xs c h))

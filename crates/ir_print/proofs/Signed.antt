@@ -18,7 +18,7 @@ above : (all half n : ℕ) → all ≤ n → shown all half n ≡ decimal n
 above all half n h = rw (le-ltb n all h)
 
 -- half of all the numbers of a width
-half_of : (width : ℕ) → 0 < width → 2 ^ width ≡ 2 ^ (width - 1) + 2 ^ (width - 1)
+pub half_of : (width : ℕ) → 0 < width → 2 ^ width ≡ 2 ^ (width - 1) + 2 ^ (width - 1)
 half_of zero h = omega arith
 half_of (suc k) h = let e : suc k - 1 ≡ k = omega arith in rw e (two-pow-succ k)
 

@@ -1,6 +1,18 @@
 //! The text of modules, their types and their globals.
-ghost use Rattle.std.specs.Prelude.{◌≡◌, ◌++◌, codes, map, OnOk, IfOk};
-ghost use Rattle.ir_core.specs.Text.{Text, in_spaces, init_text, initial_text, type_def_text, global_text};
+ghost use Rattle.std.specs.Prelude.{◌≡◌, ◌≤◌, ◌++◌, codes, length, map, OnOk, IfOk};
+ghost use Rattle.ir_core.specs.FirstForm.{HasOutForm};
+ghost use Rattle.ir_core.specs.ReadsBack.{ReadsBack};
+ghost use Rattle.ir_core.specs.Text.{
+  Text,
+  all_led,
+  in_spaces,
+  init_text,
+  initial_text,
+  type_def_text,
+  global_text,
+  type_text,
+};
+ghost use Rattle.ir_core.specs.Tokens.{text_limit};
 ghost use Rattle.ir_print.specs.Parts.{element_text, global_start};
 
 use crate::instructions::write_align;
@@ -115,9 +127,10 @@ impl Printed for Global {
     }
 }
 
-/// The canonical text of the module.
+/// The canonical text of the module. Reading it gives a module of the first form back, but for its lines.
 pub fn print_module(alloc: Heap, m: &Module) -> Result<List<u8>, OutOfMemory>
-    ensures { IfOk result (λ text. text ≡ Text m.now) }
+    ensures text { IfOk result (λ text. text ≡ Text m.now) }
+    ensures back { IfOk result (λ text. HasOutForm m.now → length text ≤ text_limit → ReadsBack text m.now) }
 {
     let mut out = Writer::new(alloc);
     out.lines(m.prelude.as_slice())?;

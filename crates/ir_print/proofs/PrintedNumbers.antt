@@ -1,27 +1,28 @@
 -- Printed numbers, and what they are kept as.
-use Rattle.std.proofs.Common.{mod-eq_of_lt, ◌≡◌, ℕ, zero, suc, ◌+◌, ◌-◌, ◌*◌, ◌/◌, ◌%◌, ◌^◌, ◌≤◌, ◌<◌, List, [], ◌∷◌, ◌++◌, length, drop, Bool, true, false, cond, refl, sym, ap, ◌∙◌, subst, inl, inr, ◌⊎◌, arith, length-append, decimal, nat_lt, ◌==◌, if◌then◌else◌, codes}
-use Rattle.std.proofs.lemmas.Bool.{ltb-true, lt-ltb, le-ltb, le-leb, eqb-true}
-use Rattle.std.proofs.lemmas.Fmt.{decimal_by_steps, decimal_nonempty}
-use Rattle.std.proofs.Math.Nat.{pow-le-pow_right, two-pow-succ}
-use Rattle.ir_core.specs.declared.types.Ty.{Ty}
-use Rattle.ir_core.specs.declared.types.Ty.TheVariants.{Void, Int as IntTy, Ptr}
+use Rattle.std.proofs.Common.{mod-eq_of_lt, ◌≡◌, ℕ, zero, suc, ◌+◌, ◌-◌, ◌*◌, ◌/◌, ◌%◌, ◌^◌, ◌≤◌, ◌<◌, List, [], ◌∷◌, ◌++◌, Bool, true, false, refl, sym, ap, ◌∙◌, arith, decimal, ◌==◌}
+use Rattle.std.proofs.lemmas.Bool.{lt-ltb, le-leb, eqb-true}
+use Rattle.std.proofs.lemmas.Fmt.{decimal_by_steps}
+use Rattle.ir_core.specs.declared.types.Ty.TheVariants.{Int as IntTy}
 use Rattle.ir_core.specs.Bytes.{digit_byte, every}
-use Rattle.ir_core.proofs.Lexing.{every_first}
+use Rattle.ir_core.proofs.Lexing.{every_first, every_more, every_append}
 use Rattle.ir_core.proofs.Printed.{if_true, if_false}
-use Rattle.ir_core.specs.Numbers.{value_from, value_of, is_negative, begins_with, magnitude, fits, modulo, is_number_in_range, kept_at}
+use Rattle.ir_core.specs.Numbers.{value_from, value_of, is_negative, magnitude, fits, modulo, is_number_in_range, kept_at}
 
 -- ---- the digits of a number, and what they spell
 
+-- digits read one after another
 value_append : (n : ℕ) (xs ys : List ℕ) → value_from n (xs ++ ys) ≡ value_from (value_from n xs) ys
 value_append n [] ys = refl
 value_append n (x ∷ xs) ys = value_append (10 * n + (x - 48)) xs ys
 
+-- the printed digits of a number spell it
 pub decimal_value : (n : ℕ) → n < 2 ^ 64 → value_of (decimal n) ≡ n
 decimal_value n h = decimal_by_steps (λ n ds. value_of ds ≡ n)
   (λ n digit. let e : 10 * 0 + (48 + n - 48) ≡ n = omega arith in e)
   (λ n ds big below. value_append 0 ds ((48 + n % 10) ∷ []) ∙ ap (λ k. 10 * k + (48 + n % 10 - 48)) below ∙ (let e : 10 * (n / 10) + (48 + n % 10 - 48) ≡ n = omega arith in e))
   n h
 
+-- a digit is one byte
 digit_of : (n : ℕ) → n < 10 → digit_byte (48 + n) ≡ true
 digit_of zero h = refl
 digit_of (suc zero) h = refl
@@ -35,14 +36,11 @@ digit_of (suc (suc (suc (suc (suc (suc (suc (suc zero)))))))) h = refl
 digit_of (suc (suc (suc (suc (suc (suc (suc (suc (suc zero))))))))) h = refl
 digit_of (suc (suc (suc (suc (suc (suc (suc (suc (suc (suc n)))))))))) h = absurd (omega arith)
 
-every_append : (p : ℕ → Bool) (xs ys : List ℕ) → every p xs ≡ true → every p ys ≡ true → every p (xs ++ ys) ≡ true
-every_append p [] ys h k = k
-every_append p (x ∷ xs) ys h k = let e = every_first p x xs h in if_true _ _ _ e.0 ∙ every_append p xs ys e.1 k
-
+-- a number is printed in digits
 pub decimal_digits : (n : ℕ) → n < 2 ^ 64 → every digit_byte (decimal n) ≡ true
 decimal_digits n h = decimal_by_steps (λ n ds. every digit_byte ds ≡ true)
-  (λ n digit. if_true _ _ _ (digit_of n digit))
-  (λ n ds big below. every_append digit_byte ds ((48 + n % 10) ∷ []) below (if_true _ _ _ (digit_of (n % 10) (omega arith))))
+  (λ n digit. every_more digit_byte (48 + n) [] (digit_of n digit) refl)
+  (λ n ds big below. every_append digit_byte ds ((48 + n % 10) ∷ []) below (every_more digit_byte (48 + n % 10) [] (digit_of (n % 10) (omega arith)) refl))
   n h
 
 -- digits do not begin with a -
@@ -68,6 +66,7 @@ plain_fits n h =
 pub plain_in_range : (n : ℕ) → n < 2 ^ 64 → is_number_in_range (decimal n) ≡ true
 plain_in_range n h = let e = plain_fits n h in ap (λ b. fits 64 b (magnitude (decimal n))) e.0 ∙ ap (fits 64 false) e.1 ∙ lt-ltb n (2 ^ 64) h
 
+-- it is kept as it was
 pub plain_kept : (width n : ℕ) → n < 2 ^ 64 → n < 2 ^ width → kept_at (IntTy width) (decimal n) ≡ n
 plain_kept width n h l =
     let e = plain_fits n h in
@@ -78,6 +77,7 @@ plain_kept width n h l =
 minus_magnitude : (k : ℕ) → k < 2 ^ 64 → magnitude (45 ∷ decimal k) ≡ k
 minus_magnitude k h = decimal_value k h
 
+-- it is in the range of operands, and is kept as its distance from the width's end
 pub minus_in_range : (k : ℕ) → k ≤ 2 ^ 63 → is_number_in_range (45 ∷ decimal k) ≡ true
 minus_in_range k h = ap (fits 64 true) (minus_magnitude k (omega arith)) ∙ le-leb k (2 ^ 63) h
 

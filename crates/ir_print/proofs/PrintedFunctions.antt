@@ -1,23 +1,22 @@
 -- Printed blocks, functions and modules: their tokens, and what they spell.
-use Rattle.std.proofs.Common.{◌≡◌, ℕ, ◌+◌, ◌-◌, ◌≤◌, List, [], ◌∷◌, ◌++◌, length, take, map, Option, Some, None, Bool, true, false, refl, sym, ap, ◌∙◌, subst, inl, inr, ◌⊎◌, append_assoc, codes, arith, length-append, take_at}
+use Rattle.std.proofs.Common.{◌≡◌, ℕ, ◌+◌, ◌-◌, ◌≤◌, List, [], ◌∷◌, ◌++◌, length, take, map, true, refl, sym, ap, ◌∙◌, subst, append_assoc, codes, arith, length-append, take_at}
 use Rattle.std.specs.List.{flat_map}
 use Rattle.std.proofs.lemmas.List.{append-nil}
 use Rattle.ir_core.specs.declared.types.Ty.{Ty}
 use Rattle.ir_core.specs.declared.instructions.Inst.{Inst}
-use Rattle.ir_core.specs.declared.module.Module.{Module}
 use Rattle.ir_core.specs.declared.module.Function.{Function}
 use Rattle.ir_core.specs.declared.module.Param.{Param}
 use Rattle.ir_core.specs.declared.module.Block.{Block}
-use Rattle.ir_core.specs.Tokens.{Word, Label, Mark, text_limit, Lexeme, lexemes}
-use Rattle.ir_core.specs.Spell.{any, many, one, list_to}
-use Rattle.ir_core.specs.Grammar.{IsLabel, IsScalarType, plain, last_of, block, param, numbered, body, heading, function_of, Defines, Declares, of_functions, functions_to_end, Reads}
-use Rattle.ir_core.specs.Text.{is_word, name_text, type_text, inst_text, block_text, param_text, param_type_text, heading_text, body_text, function_text, Text}
+use Rattle.ir_core.specs.Tokens.{Word, Label, Mark, text_limit, lexemes}
+use Rattle.ir_core.specs.Spell.{any, one}
+use Rattle.ir_core.specs.Grammar.{IsLabel, IsScalarType, plain, block, param, numbered, body, heading, function_of, Defines, Declares, of_functions, functions_to_end}
+use Rattle.ir_core.specs.Text.{is_word, name_text, type_text, inst_text, block_text, param_text, param_type_text, heading_text, function_text, Text}
 use Rattle.ir_core.specs.FirstForm.{is_scalar}
 use Rattle.ir_core.specs.Lines.{inst_unlined, block_unlined, function_unlined, SameButLines}
 use Rattle.ir_core.specs.ReadsBack.{ReadsBack}
-use Rattle.ir_core.proofs.Printed.{comma, led_by_comma, Bare, bare, bare_of, Lexed, label_lexed, blank_lexed, Gives, EachGives, Closes, EachCloses, listed, closes_as, gives_closes, closes_gives, closes_then, closes_many, closes_space, closes_line, closes_mark, closes_word, closes_with_list, lexed_end, lexed_whole}
-use Rattle.ir_core.proofs.PrintedOperands.{is_result, type_bare, plain_name, scalar_word, result_word, global_bare, local_bare, gives_scalar, gives_result, gives_local, gives_global, shows_scalar, shows_result, shows_local, shows_global}
-use Rattle.ir_core.proofs.PrintedInstructions.{inst_bare, GoodPlain, GoodLast, inst_closes, plain_spelled, last_spelled}
+use Rattle.ir_core.proofs.Printed.{comma, led_by_comma, Bare, bare, Lexed, label_lexed, blank_lexed, EachGives, Closes, EachCloses, listed, closes_as, gives_closes, closes_gives, closes_then, closes_many, closes_space, closes_line, closes_mark, closes_word, closes_with_list, lexed_end, lexed_whole}
+use Rattle.ir_print.proofs.PrintedOperands.{is_result, type_bare, plain_name, scalar_word, global_bare, local_bare, gives_scalar, gives_result, gives_local, gives_global, shows_scalar, shows_result, shows_local, shows_global}
+use Rattle.ir_print.proofs.PrintedInstructions.{inst_bare, GoodPlain, GoodLast, inst_closes, plain_spelled, last_spelled}
 use Rattle.ir_core.proofs.Spelled.{Spelled, Shows, EachSpelled, spelled_done, spelled_then, spelled_same, spelled_more, spelled_as, spelled_one, token_then, token_same, spelled_any, spelled_many, spelled_list_same, shows_word, shows_mark, shows_line}
 
 -- ---- blocks
@@ -38,6 +37,7 @@ pub record GoodBlock (b : Block) : Type 0 where
 abbrev pub label_bare : List ℕ → Bare
 label_bare x = bare Label (x ++ codes ":")
 
+-- the tokens of a block
 abbrev pub block_bare : Block → List Bare
 block_bare b = label_bare b.name ∷ flat_map inst_bare b.insts
 
@@ -49,9 +49,11 @@ insts_close : (is : List Inst) (last : Inst) → AllPlain is → GoodLast last �
 insts_close [] last h g = (inst_closes last g.good, tt)
 insts_close (i ∷ is) last h g = (inst_closes i h.0.good, insts_close is last h.1 g)
 
+-- the text of a block has its tokens
 pub block_closes : (b : Block) → GoodBlock b → Closes (block_text b) (block_bare b)
 block_closes b g = closes_then (label_closes b.name g.name) (closes_many inst_text inst_bare b.insts (subst (EachCloses inst_text inst_bare) (sym g.insts) (insts_close g.plains g.last g.plains_good g.last_good)))
 
+-- a label stands for its name
 shows_label : (x : List ℕ) → Shows IsLabel (label_bare x) (λ y. y ≡ x)
 shows_label x t e = (x, (ap (λ (b : Bare). b.kind) e, ap (λ (b : Bare). take (length b.bytes - 1) b.bytes) e ∙ without_colon), refl)
   where
@@ -62,6 +64,7 @@ each_plain : (is : List Inst) → AllPlain is → EachSpelled plain inst_bare in
 each_plain [] h = tt
 each_plain (i ∷ is) h = (plain_spelled i h.0, each_plain is h.1)
 
+-- the last of a list
 flat_last : {X Y : Type 0} (f : X → List Y) (xs : List X) (x : X) → flat_map f (xs ++ x ∷ []) ≡ flat_map f xs ++ f x
 flat_last f [] x = append-nil (f x)
 flat_last f (y ∷ xs) x = ap (λ l. f y ++ l) (flat_last f xs x) ∙ sym (append_assoc (f y) (flat_map f xs) (f x))
@@ -76,6 +79,7 @@ block_same b g name is end line p q r =
     let e : map inst_unlined b.insts ≡ map inst_unlined (is ++ end ∷ []) = ap (map inst_unlined) g.insts ∙ map_last inst_unlined g.plains g.last ∙ ap (λ l. l ++ inst_unlined g.last ∷ []) q ∙ ap (λ x. map inst_unlined is ++ x ∷ []) r ∙ sym (map_last inst_unlined is end) in
     λ i. record { name = sym p i; insts = e i; line = 0 }
 
+-- a block is spelled by its tokens, but for lines
 pub block_spelled : (b : Block) → GoodBlock b → Spelled block (block_bare b) (λ n. block_unlined b ≡ block_unlined n)
 block_spelled b g =
     let e : flat_map inst_bare b.insts ≡ flat_map inst_bare g.plains ++ inst_bare g.last = ap (flat_map inst_bare) g.insts ∙ flat_last inst_bare g.plains g.last in
@@ -101,6 +105,7 @@ type_of p = p.ty
 abbrev pub alone : Ty → List Bare
 alone ty = type_bare ty ∷ []
 
+-- the tokens of a parameter in a declaration and in a definition
 abbrev pub param_type_bare : Param → List Bare
 param_type_bare p = alone p.ty
 
@@ -111,16 +116,18 @@ param_bare p = type_bare p.ty ∷ local_bare p.name ∷ []
 abbrev pub bare_function : List ℕ → Ty → List Param → List Block → ℕ → Function
 bare_function name ret params blocks line = record { name = name; words = []; ret = ret; params = params; groups = []; blocks = blocks; line = line }
 
+-- the tokens of a heading, up to its parameters
 abbrev pub heading_bare : Ty → List ℕ → List Bare → List Bare
 heading_bare ret name params = type_bare ret ∷ global_bare name ∷ bare (Mark 40) (40 ∷ []) ∷ params
 
 closes_none : Closes [] []
 closes_none = record { before = λ rest ms r. r }
 
-heading_closes : (name : List ℕ) (ret : Ty) (params : List Param) (blocks : List Block) (line : ℕ) (show : Param → List ℕ) (toks : Param → List Bare) → is_word name ≡ true → is_result ret ≡ true → EachGives show toks params → Closes (heading_text (bare_function name ret params blocks line) (map show params)) (heading_bare ret name (listed 41 toks params))
-heading_closes name ret params blocks line show toks n r h =
-    closes_as (append-nil (heading_bare ret name (listed 41 toks params)))
-      (closes_then (closes_with_list 41 show toks params refl (gives_closes (closes_gives (gives_closes (gives_result ret r) closes_space (λ rest. refl)) (gives_global name n)) (closes_mark 40 refl) (λ rest. refl)) h) closes_none)
+-- the text of a heading has its tokens
+heading_closes : (name : List ℕ) (ret : Ty) (params : List Param) (blocks : List Block) (line : ℕ) (show : Param → List ℕ) (tokens : Param → List Bare) → is_word name ≡ true → is_result ret ≡ true → EachGives show tokens params → Closes (heading_text (bare_function name ret params blocks line) (map show params)) (heading_bare ret name (listed 41 tokens params))
+heading_closes name ret params blocks line show tokens n r h =
+    closes_as (append-nil (heading_bare ret name (listed 41 tokens params)))
+      (closes_then (closes_with_list 41 show tokens params refl (gives_closes (closes_gives (gives_closes (gives_result ret r) closes_space (λ rest. refl)) (gives_global name n)) (closes_mark 40 refl) (λ rest. refl)) h) closes_none)
 
 each_param : (ps : List Param) → AllScalar ps → AllNamed ps → EachGives param_text param_bare ps
 each_param [] s n = tt
@@ -130,6 +137,7 @@ each_type : (ps : List Param) → AllScalar ps → EachGives param_type_text par
 each_type [] s = tt
 each_type (p ∷ ps) s = (gives_scalar p.ty s.0, each_type ps s.1)
 
+-- a heading is spelled by its tokens, and so are parameters
 heading_spelled : (ret : Ty) (name : List ℕ) → is_result ret ≡ true → Spelled heading (heading_bare ret name []) (λ x. x ≡ (ret, name))
 heading_spelled ret name r = token_same (shows_result ret r) (token_same (shows_global name) (token_then (shows_mark 40) (λ line u. spelled_done (ret, name) (λ x. x ≡ (ret, name)) refl)))
 
@@ -158,9 +166,11 @@ blocks_spelled : (bs : List Block) → AllBlocks bs → EachSpelled block block_
 blocks_spelled [] h = tt
 blocks_spelled (b ∷ bs) h = (block_spelled b h.0, blocks_spelled bs h.1)
 
+-- the tokens of a body
 abbrev pub body_bare : List Block → List Bare
 body_bare bs = bare (Mark 123) (123 ∷ []) ∷ (flat_map block_bare bs ++ bare (Mark 125) (125 ∷ []) ∷ [])
 
+-- a body is spelled by its tokens, but for lines
 body_spelled : (b : Block) (bs : List Block) → AllBlocks (b ∷ bs) → Spelled body (body_bare (b ∷ bs)) (λ ys. map block_unlined (b ∷ bs) ≡ map block_unlined ys)
 body_spelled b bs h =
     let Q : List Block → Type 0 = λ ys. map block_unlined (b ∷ bs) ≡ map block_unlined ys in
@@ -170,12 +180,15 @@ body_spelled b bs h =
         spelled_then {ls = flat_map block_bare bs} {ms = close} {Q = Q} (spelled_many block block_bare block_unlined bs (blocks_spelled bs h.1)) (λ more q.
           token_then (shows_mark 125) (λ l v. spelled_done (first ∷ more) Q (λ i. p i ∷ q i))))))
 
+-- the tokens of a definition
 abbrev pub define_bare : List ℕ → Ty → List Param → List Block → List Bare
 define_bare name ret params bs = bare Word (codes "define") ∷ heading_bare ret name (listed 41 param_bare params ++ body_bare bs)
 
+-- what stands between two marks
 around : (l f : List Bare) (o c : Bare) → ((l ++ o ∷ []) ++ f) ++ c ∷ [] ≡ l ++ o ∷ (f ++ c ∷ [])
 around l f o c = append_assoc (l ++ o ∷ []) f (c ∷ []) ∙ append_assoc l (o ∷ []) (f ++ c ∷ [])
 
+-- the text of a definition has its tokens
 define_closes : (name : List ℕ) (ret : Ty) (params : List Param) (b : Block) (bs : List Block) (line : ℕ) → is_word name ≡ true → is_result ret ≡ true → AllScalar params → AllNamed params → AllBlocks (b ∷ bs) → Closes (function_text (bare_function name ret params (b ∷ bs) line)) (define_bare name ret params (b ∷ bs))
 define_closes name ret params b bs line n r s m h =
     let l : List Bare = bare Word (codes "define") ∷ heading_bare ret name (listed 41 param_bare params) in
@@ -187,6 +200,7 @@ define_closes name ret params b bs line n r s m h =
     shuts : Closes (codes "}\n") (bare (Mark 125) (125 ∷ []) ∷ [])
     shuts = closes_then (closes_mark 125 refl) closes_line
 
+-- a definition is spelled by its tokens, but for lines
 define_spelled : (name : List ℕ) (ret : Ty) (params : List Param) (b : Block) (bs : List Block) (line : ℕ) → is_result ret ≡ true → AllScalar params → AllBlocks (b ∷ bs) → Spelled (any function_of) (define_bare name ret params (b ∷ bs)) (λ n. function_unlined (bare_function name ret params (b ∷ bs) line) ≡ function_unlined n)
 define_spelled name ret params b bs line r s h =
     let Q : Function → Type 0 = λ n. function_unlined (bare_function name ret params (b ∷ bs) line) ≡ function_unlined n in
@@ -199,12 +213,15 @@ define_spelled name ret params b bs line r s h =
 
 -- ---- declarations
 
+-- the tokens of a declaration
 abbrev pub declare_bare : List ℕ → Ty → List Param → List Bare
 declare_bare name ret params = bare Word (codes "declare") ∷ heading_bare ret name (listed 41 param_type_bare params)
 
+-- the text of a declaration has its tokens
 declare_closes : (name : List ℕ) (ret : Ty) (params : List Param) (line : ℕ) → is_word name ≡ true → is_result ret ≡ true → AllScalar params → Closes (function_text (bare_function name ret params [] line)) (declare_bare name ret params)
 declare_closes name ret params line n r s = closes_as (append-nil (declare_bare name ret params)) (closes_then (closes_then (closes_word (codes "declare") refl) (heading_closes name ret params [] line param_type_text param_type_bare n r (each_type params s))) closes_line)
 
+-- a declaration has its parameters' types alone
 led_types : (ps : List Param) → flat_map (led_by_comma param_type_bare) ps ≡ flat_map (led_by_comma alone) (map type_of ps)
 led_types [] = refl
 led_types (p ∷ ps) = ap (λ l. comma ∷ type_bare p.ty ∷ l) (led_types ps)
@@ -213,6 +230,7 @@ listed_types : (ps : List Param) → listed 41 alone (map type_of ps) ≡ listed
 listed_types [] = refl
 listed_types (p ∷ ps) = ap (λ l. type_bare p.ty ∷ (l ++ bare (Mark 41) (41 ∷ []) ∷ [])) (sym (led_types ps))
 
+-- a declaration is spelled by its tokens, but for its line
 declare_spelled : (name : List ℕ) (ret : Ty) (params : List Param) (line : ℕ) → is_result ret ≡ true → AllScalar params → params ≡ numbered 0 (map type_of params) → Spelled (any function_of) (declare_bare name ret params) (λ n. function_unlined (bare_function name ret params [] line) ≡ function_unlined n)
 declare_spelled name ret params line r s e =
     let Q : Function → Type 0 = λ n. function_unlined (bare_function name ret params [] line) ≡ function_unlined n in
@@ -232,6 +250,7 @@ pub record GoodHeading (f : Function) : Type 0 where
   pub ret : is_result f.ret ≡ true
   pub params : AllScalar f.params
 
+-- it is defined, or it is declared with its parameters named by their places
 pub data GoodFunction (f : Function) : Type 0 where
   defined : GoodHeading f → AllNamed f.params → (b : Block) (bs : List Block) → f.blocks ≡ b ∷ bs → AllBlocks (b ∷ bs) → GoodFunction f
   declared : GoodHeading f → f.blocks ≡ [] → f.params ≡ numbered 0 (map type_of f.params) → GoodFunction f
@@ -247,10 +266,12 @@ function_bare f = function_bare_by f f.blocks
 as_bare : (f : Function) (blocks : List Block) → GoodHeading f → f.blocks ≡ blocks → bare_function f.name f.ret f.params blocks f.line ≡ f
 as_bare f blocks h e = λ i. record { name = f.name; words = sym h.words i; ret = f.ret; params = f.params; groups = sym h.groups i; blocks = sym e i; line = f.line }
 
+-- the text of a function has its tokens
 pub function_closes : (f : Function) → GoodFunction f → Closes (function_text f) (function_bare f)
 function_closes f (defined h n b bs e g) = subst (λ f. Closes (function_text f) (function_bare f)) (as_bare f (b ∷ bs) h e) (define_closes f.name f.ret f.params b bs f.line h.name h.ret h.params n g)
 function_closes f (declared h e p) = subst (λ f. Closes (function_text f) (function_bare f)) (as_bare f [] h e) (declare_closes f.name f.ret f.params f.line h.name h.ret h.params)
 
+-- a function is spelled by its tokens, but for lines
 pub function_spelled : (f : Function) → GoodFunction f → Spelled (any function_of) (function_bare f) (λ n. function_unlined f ≡ function_unlined n)
 function_spelled f (defined h n b bs e g) = subst (λ f. Spelled (any function_of) (function_bare f) (λ n. function_unlined f ≡ function_unlined n)) (as_bare f (b ∷ bs) h e) (define_spelled f.name f.ret f.params b bs f.line h.ret h.params g)
 function_spelled f (declared h e p) = subst (λ f. Spelled (any function_of) (function_bare f) (λ n. function_unlined f ≡ function_unlined n)) (as_bare f [] h e) (declare_spelled f.name f.ret f.params f.line h.ret h.params p)
@@ -269,6 +290,7 @@ each_function : (fs : List Function) → AllFunctions fs → EachSpelled (any fu
 each_function [] h = tt
 each_function (f ∷ fs) h = (function_spelled f h.0, each_function fs h.1)
 
+-- functions to the end of the text
 functions_spelled : (fs : List Function) → AllFunctions fs → Spelled functions_to_end (flat_map function_bare fs ++ []) (λ n. SameButLines (of_functions fs) n)
 functions_spelled fs h = spelled_then {ls = flat_map function_bare fs} {ms = []} {Q = λ n. SameButLines (of_functions fs) n} (spelled_many (any function_of) function_bare function_unlined fs (each_function fs h)) (λ gs q.
   spelled_done (of_functions gs) (λ n. SameButLines (of_functions fs) n) (λ i. record { prelude = []; types = []; globals = []; functions = q i; tail = [] }))

@@ -1,5 +1,5 @@
 -- A module of the first form is one that its canonical text gives back.
-use Rattle.std.proofs.Common.{◌≡◌, ℕ, ◌+◌, ◌-◌, ◌^◌, ◌≤◌, ◌<◌, List, [], ◌∷◌, ◌++◌, length, take, drop, map, Option, Some, None, Bool, true, false, cond, not, ◌&&◌, ◌==◌, nat_lt, refl, sym, ap, ◌∙◌, subst, inl, inr, append_assoc, codes, decimal, arith, take-append-drop, if◌then◌else◌}
+use Rattle.std.proofs.Common.{◌≡◌, ℕ, ◌-◌, ◌^◌, ◌≤◌, ◌<◌, List, [], ◌∷◌, ◌++◌, length, drop, map, Option, Some, None, Bool, true, false, cond, not, ◌&&◌, nat_lt, refl, sym, ap, ◌∙◌, subst, append_assoc, codes, decimal, arith, take-append-drop, if◌then◌else◌}
 use Rattle.std.specs.List.{flat_map, list_all}
 use Rattle.std.specs.Str.{bytes_eq}
 use Rattle.std.proofs.lemmas.Bool.{and_parts, and_from, eqb-true, lt-ltb}
@@ -23,15 +23,15 @@ use Rattle.ir_core.specs.declared.module.Function.{Function}
 use Rattle.ir_core.specs.declared.module.Param.{Param}
 use Rattle.ir_core.specs.declared.module.Block.{Block}
 use Rattle.ir_core.specs.EntryPoints.{target_init, target_deinit}
-use Rattle.ir_core.specs.FirstForm.{is_scalar, is_add_sub_or_mul, is_int_of, is_integer, is_ptr, is_void, is_number, is_null, is_register, is_function, is_null_ptr, is_constant, no_result, empty, is_init_operands, is_init_kind, is_minus_one, are_compared, is_test_kind, is_branch_kind, is_branch, by_test, by_init, is_entry, is_plain_access, is_user_kind, is_user_inst, is_deinit_operands, is_deinit_kind, is_deinit, is_return_kind, is_return, is_end, user_code, is_user, is_exit, are_kernel_blocks, is_scalar_param, is_kernel, are_init_params, are_deinit_params, is_bare_declaration, declares_init, declares_deinit, result_given, inst_given, block_given, param_given, label_given, given, name_of, type_in, is_type, is_given, is_number_of, is_value_of, is_well_typed, uses_well_typed, inst_well_typed, block_well_typed, has_good_names, is_well_formed, are_functions, only_functions, is_first_form, HasOutForm, HasFirstForm}
+use Rattle.ir_core.specs.FirstForm.{is_scalar, is_add_sub_or_mul, is_int_of, is_integer, is_ptr, is_void, is_number, is_null, is_register, is_function, is_null_ptr, is_constant, no_result, empty, is_init_operands, is_init_kind, is_minus_one, are_compared, is_test_kind, is_branch_kind, is_branch, by_test, by_init, is_entry, is_plain_access, is_user_kind, is_user_inst, is_deinit_operands, is_deinit_kind, is_deinit, is_return_kind, is_return, is_end, user_code, is_user, is_exit, are_kernel_blocks, is_scalar_param, is_kernel, are_init_params, are_deinit_params, is_bare_declaration, declares_init, declares_deinit, result_given, inst_given, block_given, param_given, label_given, given, name_of, type_in, is_type, is_given, is_number_of, is_value_of, is_well_typed, uses_well_typed, inst_well_typed, block_well_typed, is_well_formed, are_functions, only_functions, HasOutForm}
 use Rattle.ir_core.specs.FirstForm.{no_flags as has_no_flags}
 use Rattle.ir_core.specs.Grammar.{no_flags, numbered, of_functions}
 use Rattle.ir_core.specs.Tokens.{text_limit}
 use Rattle.ir_core.specs.Text.{is_word, Text}
 use Rattle.ir_core.specs.ReadsBack.{ReadsBack}
-use Rattle.ir_core.proofs.PrintedOperands.{is_result, GoodValue, GoodTyped}
-use Rattle.ir_core.proofs.PrintedInstructions.{AllTyped, GoodKind, gives_value, has_effect, ends_block, GoodResult, IsPlain, IsLast, GoodInst, GoodPlain, GoodLast}
-use Rattle.ir_core.proofs.PrintedFunctions.{AllPlain, GoodBlock, AllBlocks, AllScalar, AllNamed, type_of, GoodHeading, GoodFunction, defined, declared, AllFunctions, functions_back}
+use Rattle.ir_print.proofs.PrintedOperands.{is_result, GoodValue, GoodTyped}
+use Rattle.ir_print.proofs.PrintedInstructions.{AllTyped, GoodKind, gives_value, has_effect, ends_block, GoodResult, IsPlain, IsLast, GoodInst, GoodPlain, GoodLast}
+use Rattle.ir_print.proofs.PrintedFunctions.{AllPlain, GoodBlock, AllBlocks, AllScalar, AllNamed, type_of, GoodHeading, GoodFunction, defined, declared, AllFunctions, functions_back}
 
 -- ---- what single tests say
 
@@ -54,6 +54,7 @@ integer_scalar : (ty : Ty) → is_integer ty ≡ true → is_scalar ty ≡ true
 integer_scalar (IntTy width) h = h
 integer_scalar _ h = absurd (let f : false ≡ true = h in cc)
 
+-- an integer type of a width
 int_is : (width : ℕ) (ty : Ty) → is_int_of width ty ≡ true → ty ≡ IntTy width
 int_is width (IntTy w) h = ap IntTy (eqb-true w width h)
 int_is width _ h = absurd (let f : false ≡ true = h in cc)
@@ -73,6 +74,7 @@ void_result _ h = absurd (let f : false ≡ true = h in cc)
 int_result : (width : ℕ) (ty : Ty) → is_scalar (IntTy width) ≡ true → is_int_of width ty ≡ true → is_result ty ≡ true
 int_result width ty s h = scalar_result ty (int_scalar width ty s h)
 
+-- operands that a test knows
 null_good : (ty : Ty) (v : Value) → is_null v ≡ true → GoodValue ty v
 null_good ty Null h = tt
 null_good ty _ h = absurd (let f : false ≡ true = h in cc)
@@ -95,11 +97,13 @@ function_is : (x : List ℕ) (v : Value) → is_function x v ≡ true → v ≡ 
 function_is x (GlobalValue y) h = ap GlobalValue (same_bytes y x h)
 function_is x _ h = absurd (let f : false ≡ true = h in cc)
 
+-- a call of a known function
 call_good : (name : List ℕ) (ret : Ty) (callee : Value) (args : List Typed) → is_word name ≡ true → is_result ret ≡ true → is_function name callee ≡ true → AllTyped args → GoodKind (Call Absent ret callee args)
 call_good name ret callee args w r f a = subst (λ v. GoodKind (Call Absent ret v args)) (sym (function_is name callee f)) (r, w, a)
 
 -- ---- names that are words
 
+-- each name is a word
 abbrev pub AllWords : List (List ℕ × Ty) → Type 0
 AllWords [] = Unit {0}
 AllWords (p ∷ ps) = (is_word p.0 ≡ true) × AllWords ps
@@ -125,6 +129,7 @@ given_word (p ∷ ps) ty x w h = by (bytes_eq x p.0) refl (given_word ps ty x w.
     by true e k = ap is_word (same_bytes x p.0 e) ∙ w.0
     by false e k = k (sym (ap (λ (b : Bool). is_type ty (cond b (Some p.1) (type_in ps x))) e) ∙ h)
 
+-- an operand of its type is good, since its name is given
 value_good : (ps : List (List ℕ × Ty)) (ty : Ty) (v : Value) → AllWords ps → is_value_of (is_given ps) ty v ≡ true → GoodValue ty v
 value_good ps ty (IntValue n) w h = h
 value_good ps ty Null w h = tt
@@ -148,6 +153,7 @@ good_block b w g = record { name = w; plains = g.plains; last = g.last; insts = 
 good_inst : (i : Inst) → AllWords (inst_given i) → GoodKind i.kind → GoodInst i
 good_inst i w g = record { result = result_good i.result i.kind w; kind = g }
 
+-- an instruction with a result, and one without
 plain_some : (i : Inst) (x : List ℕ) → i.result ≡ Some x → AllWords (inst_given i) → GoodKind i.kind → gives_value i.kind ≡ true → GoodPlain i
 plain_some i x e w g h = record { good = good_inst i w g; shape = subst (λ r. IsPlain r i.kind) (sym e) h }
 
@@ -159,6 +165,7 @@ last_none i e w g h = record { good = good_inst i w g; shape = subst (λ r. IsLa
 
 -- ---- the first block
 
+-- the operands of the init call
 init_operands_good : (flag : Bool) (vs : List Typed) → is_init_operands flag vs ≡ true → AllTyped vs
 init_operands_good flag (place ∷ mode ∷ last ∷ []) h =
     let p = and_parts _ _ h in
@@ -170,6 +177,7 @@ init_operands_good flag (place ∷ mode ∷ last ∷ []) h =
     small false = omega arith
 init_operands_good flag _ h = absurd (let f : false ≡ true = h in cc)
 
+-- the init call, the test and the branch
 init_kind_good : (flag : Bool) (k : Kind) → is_init_kind flag k ≡ true → GoodKind k × (gives_value k ≡ true)
 init_kind_good flag (Call Absent ret callee args) h =
     let p = and_parts _ _ h in
@@ -214,6 +222,7 @@ test_result : (x : List ℕ) (r : Option (List ℕ)) (user exit : List ℕ) (tes
 test_result x None user exit test branch h = absurd (let f : false ≡ true = h in cc)
 test_result x (Some y) user exit test branch h = let p = and_parts _ _ h in (y, refl, p.0, p.1)
 
+-- the first block
 entry_good : (flag : Bool) (user exit : List ℕ) (is : List Inst) → is_word user ≡ true → is_word exit ≡ true → AllWords (flat_map inst_given is) → is_entry flag user exit is ≡ true → GoodInsts is
 entry_good flag user exit (init ∷ test ∷ branch ∷ []) u e a h =
     let a1 = words_split (inst_given init) (flat_map inst_given (test ∷ branch ∷ [])) a in
@@ -236,6 +245,7 @@ entry_good flag user exit _ u e a h = absurd (let f : false ≡ true = h in cc)
 
 -- ---- the second and the third block
 
+-- no flags, no order and no alignment
 flags_none : (f : Flags) → has_no_flags f ≡ true → f ≡ no_flags
 flags_none f h =
     let p = and_parts _ _ h in
@@ -250,6 +260,7 @@ plain_access : (order : Option Order) (align : ℕ) → is_plain_access order al
 plain_access None align h = (refl, eqb-true align 0 h)
 plain_access (Some order) align h = absurd (let f : false ≡ true = h in cc)
 
+-- the instructions of the user code
 load_good : (ps : List (List ℕ × Ty)) (ty : Ty) (at : Typed) (order : Option Order) (align : ℕ) → AllWords ps → (is_scalar ty && is_ptr at.ty && is_plain_access order align) ≡ true → is_well_typed (is_given ps) at ≡ true → GoodKind (Load ty at order align)
 load_good ps ty at order align w h t =
     let p = and_parts _ _ h in
@@ -293,10 +304,12 @@ user_insts_good ps (i ∷ is) w a h t =
     let q = and_parts _ _ t in
     (user_inst_good ps i w b.0 p.0 q.0, user_insts_good ps is w b.1 p.1 q.1)
 
+-- the operands of the deinit call
 deinit_operands_good : (vs : List Typed) → is_deinit_operands vs ≡ true → AllTyped vs
 deinit_operands_good (place ∷ mode ∷ []) h = let p = and_parts _ _ h in (null_ptr_good place p.0, (constant_good 8 1 mode refl (omega arith) p.1, tt))
 deinit_operands_good _ h = absurd (let f : false ≡ true = h in cc)
 
+-- the deinit call and the return
 deinit_kind_good : (k : Kind) → is_deinit_kind k ≡ true → GoodKind k × (has_effect k ≡ true)
 deinit_kind_good (Call Absent ret callee args) h =
     let p = and_parts _ _ h in
@@ -314,6 +327,7 @@ return_kind_good _ h = absurd (let f : false ≡ true = h in cc)
 return_good : (i : Inst) → AllWords (inst_given i) → is_return i ≡ true → GoodLast i
 return_good i a h = let p = and_parts _ _ h in let g = return_kind_good i.kind p.1 in last_none i (is_none i.result p.0) a g.0 g.1
 
+-- the third block
 exit_good : (is : List Inst) → AllWords (flat_map inst_given is) → is_exit is ≡ true → GoodInsts is
 exit_good (leave ∷ []) a h = record { plains = []; last = leave; whole = refl; plains_good = tt; last_good = return_good leave (words_split (inst_given leave) [] a).0 h }
 exit_good _ a h = absurd (let f : false ≡ true = h in cc)
@@ -337,6 +351,7 @@ ended_good front (deinit ∷ leave ∷ []) g a h =
     }
 ended_good front _ g a h = absurd (let f : false ≡ true = h in cc)
 
+-- the names that two rows of instructions give
 given_split : (xs ys : List Inst) → flat_map inst_given (xs ++ ys) ≡ flat_map inst_given xs ++ flat_map inst_given ys
 given_split [] ys = refl
 given_split (x ∷ xs) ys = ap (λ l. inst_given x ++ l) (given_split xs ys) ∙ sym (append_assoc (inst_given x) (flat_map inst_given xs) (flat_map inst_given ys))
@@ -345,6 +360,7 @@ all_front : {A : Type 0} (p : A → Bool) (xs ys : List A) → list_all p (xs ++
 all_front p [] ys h = refl
 all_front p (x ∷ xs) ys h = let e = and_parts _ _ h in and_from (p x) (list_all p xs) e.0 (all_front p xs ys e.1)
 
+-- the second block
 user_good : (ps : List (List ℕ × Ty)) (is : List Inst) → AllWords ps → AllWords (flat_map inst_given is) → is_user is ≡ true → list_all (inst_well_typed (is_given ps)) is ≡ true → GoodInsts is
 user_good ps is w a h t =
     let front = user_code is in
@@ -380,6 +396,7 @@ kernel_blocks flag ps (entry ∷ user ∷ exit ∷ []) w a l h t =
     (entry, (user ∷ exit ∷ []), refl, (good_block entry l.0 (entry_good flag user.name exit.name entry.insts u x a1.0 q.0), (good_block user u (user_good ps user.insts w a2.0 q.1 t2.0), (good_block exit x (exit_good exit.insts a3.0 p.1), tt))))
 kernel_blocks flag ps _ w a l h t = absurd (let f : false ≡ true = h in cc)
 
+-- the kernel
 kernel_good : (flag : Bool) (f : Function) → is_kernel flag f ≡ true → is_well_formed f ≡ true → GoodFunction f
 kernel_good flag f h k =
     let p1 = and_parts _ _ h in
@@ -401,6 +418,7 @@ kernel_good flag f h k =
 
 -- ---- the declarations
 
+-- a parameter that is named by its place
 named_as : (p : Param) (name : List ℕ) (n : ℕ) → bytes_eq p.name name ≡ true → decimal n ≡ name → ◌≡◌ {A = Param} p (record { name = decimal n; ty = p.ty })
 named_as p name n h e = λ i. record { name = (same_bytes p.name name h ∙ sym e) i; ty = p.ty }
 
@@ -432,6 +450,7 @@ deinit_params_good (a ∷ b ∷ []) h =
     record { scalar = (ptr_scalar a.ty p3.1, (int_scalar 8 b.ty refl p1.1, tt)); placed = λ i. x i ∷ y i ∷ [] }
 deinit_params_good _ h = absurd (let f : false ≡ true = h in cc)
 
+-- a declaration
 declaration_good : (name : List ℕ) (f : Function) → is_word name ≡ true → is_bare_declaration name f ≡ true → is_result f.ret ≡ true → GoodPlaces f.params → GoodFunction f
 declaration_good name f w h r g =
     let p1 = and_parts _ _ h in
@@ -448,6 +467,7 @@ deinit_declared_good f h = let p = and_parts _ _ h in let q = and_parts _ _ p.0 
 
 -- ---- the module
 
+-- the kernel and the two declarations
 functions_good : (flag : Bool) (fs : List Function) → are_functions flag fs ≡ true → AllFunctions fs
 functions_good flag (kernel ∷ init ∷ deinit ∷ []) h =
     let p1 = and_parts _ _ h in
@@ -456,6 +476,7 @@ functions_good flag (kernel ∷ init ∷ deinit ∷ []) h =
     (kernel_good flag kernel p3.0 p3.1, (init_good init p2.1, (deinit_declared_good deinit p1.1, tt)))
 functions_good flag _ h = absurd (let f : false ≡ true = h in cc)
 
+-- a module of functions alone
 functions_only : (m : Module) → only_functions m ≡ true → of_functions m.functions ≡ m
 functions_only m h =
     let p1 = and_parts _ _ h in
@@ -469,6 +490,6 @@ reads_back m h =
     let p = and_parts _ _ h.1 in
     subst (λ m. length (Text m) ≤ text_limit → ReadsBack (Text m) m) (functions_only m p.0) (functions_back m.functions (functions_good h.0 m.functions p.1))
 
--- the same of a module that came in
-pub first_reads_back : (m : Module) → HasFirstForm m → length (Text m) ≤ text_limit → ReadsBack (Text m) m
-first_reads_back m h = reads_back m (true, h)
+-- the same of a text that is known to be the canonical one
+pub text_reads_back : (m : Module) (text : List ℕ) → text ≡ Text m → HasOutForm m → length text ≤ text_limit → ReadsBack text m
+text_reads_back m text e h = subst (λ t. length t ≤ text_limit → ReadsBack t m) (sym e) (reads_back m h)

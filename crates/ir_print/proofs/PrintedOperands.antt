@@ -1,24 +1,24 @@
 -- Printed types and operands: their tokens, and what they spell.
-use Rattle.std.proofs.Common.{◌≡◌, ℕ, zero, suc, ◌+◌, ◌-◌, ◌^◌, ◌/◌, ◌%◌, ◌≤◌, ◌<◌, List, [], ◌∷◌, ◌++◌, length, drop, Bool, true, false, cond, refl, sym, ap, ◌∙◌, subst, inl, inr, ◌⊎◌, arith, append_assoc, decimal, nat_lt, ◌==◌, if◌then◌else◌, codes}
-use Rattle.std.proofs.lemmas.Bool.{ltb-true, ltb-false, lt-ltb, le-ltb, eqb-true}
+use Rattle.std.proofs.Common.{◌≡◌, ℕ, zero, suc, ◌+◌, ◌-◌, ◌^◌, ◌/◌, ◌%◌, ◌≤◌, ◌<◌, List, [], ◌∷◌, ◌++◌, drop, Bool, true, false, cond, refl, sym, ap, ◌∙◌, subst, inl, inr, ◌⊎◌, arith, decimal, nat_lt, ◌==◌, if◌then◌else◌, codes}
+use Rattle.std.proofs.lemmas.Bool.{ltb-true, ltb-false, lt-ltb, eqb-true}
 use Rattle.std.proofs.lemmas.Fmt.{decimal_nonempty, decimal_digit, decimal_step}
-use Rattle.std.proofs.Math.Nat.{pow-le-pow_right, two-pow-succ}
+use Rattle.std.proofs.Math.Nat.{pow-le-pow_right}
 use Rattle.ir_core.specs.declared.types.Ty.{Ty, fold-roll-Ty}
 use Rattle.ir_core.specs.declared.types.Ty.TheOpen.{Ty-F}
 use Rattle.ir_core.specs.declared.types.Ty.TheVariants.{Void, Int as IntTy, Ptr, rolls-Void, rolls-Int, rolls-Ptr}
 use Rattle.ir_core.specs.declared.instructions.Value.{Value}
 use Rattle.ir_core.specs.declared.instructions.Value.TheVariants.{Int as IntValue, Null, Local as Register, Global as GlobalValue}
 use Rattle.ir_core.specs.declared.instructions.Typed.{Typed}
-use Rattle.ir_core.specs.Bytes.{digit_byte, every}
-use Rattle.ir_core.specs.Tokens.{TokenKind, Word, Local, Global, Number, Lexeme}
+use Rattle.ir_core.specs.Tokens.{TokenKind, Word, Local, Global, Number}
 use Rattle.ir_core.specs.Numbers.{is_number_in_range, kept_at}
-use Rattle.ir_core.specs.Spell.{InTable, one, IsWordIn}
+use Rattle.ir_core.specs.Spell.{InTable, IsWordIn}
 use Rattle.ir_core.specs.Grammar.{scalar_types, result_types, IsScalarType, IsResultType, truth_words, IsValue, IsLocal, IsGlobal, typed}
-use Rattle.ir_core.specs.Text.{is_word, name_text, local_text, global_name_text, type_text, type_layer, signed_text, truth_text, integer_text, number_text, value_text, typed_text}
+use Rattle.ir_core.specs.Text.{is_word, name_text, local_text, global_name_text, type_text, type_layer, integer_text, number_text, value_text, typed_text}
 use Rattle.ir_core.specs.FirstForm.{is_width, is_scalar, is_number_of}
-use Rattle.ir_core.proofs.Printed.{Gives, gives_word, closes_word, closes_gives, Bare, bare, bare_of, Lexed, Ends, word_lexed, local_lexed, global_lexed, number_lexed, minus_lexed, blank_lexed, if_true, if_false}
-use Rattle.ir_core.proofs.PrintedNumbers.{decimal_digits, plain_in_range, plain_kept, minus_in_range, minus_kept}
-use Rattle.ir_core.proofs.Spelled.{Spelled, Shows, spelled_done, token_same, shows_in, shows_word}
+use Rattle.ir_print.proofs.Signed.{half_of}
+use Rattle.ir_core.proofs.Printed.{Gives, gives_word, closes_word, closes_gives, Bare, bare, Lexed, Ends, word_lexed, local_lexed, global_lexed, number_lexed, minus_lexed, if_true, if_false}
+use Rattle.ir_print.proofs.PrintedNumbers.{decimal_digits, plain_in_range, plain_kept, minus_in_range, minus_kept}
+use Rattle.ir_core.proofs.Spelled.{Spelled, Shows, spelled_done, token_same, shows_in}
 
 -- ---- types
 
@@ -49,9 +49,11 @@ width_by P a b c d e n h = one_ (if_or _ _ h)
 abbrev pub TypeWord : List (List ℕ × Ty) → Ty → Type 0
 TypeWord table ty = (is_word (type_text ty) ≡ true) × InTable table (type_text ty) ty
 
+-- the same where the text is known
 type_word_as : (table : List (List ℕ × Ty)) (ty : Ty) (w : List ℕ) → type_text ty ≡ w → is_word w ≡ true → InTable table w ty → TypeWord table ty
 type_word_as table ty w e h i = (ap is_word e ∙ h, subst (λ x. InTable table x ty) (sym e) i)
 
+-- the texts of the types that registers and results have
 pub void_text : type_text Void ≡ codes "void"
 void_text = ap type_text (sym rolls-Void) ∙ fold-roll-Ty (List ℕ) type_layer Ty-F.Void
 
@@ -61,9 +63,11 @@ ptr_text = ap type_text (sym rolls-Ptr) ∙ fold-roll-Ty (List ℕ) type_layer T
 pub int_text : (width : ℕ) → type_text (IntTy width) ≡ codes "i" ++ decimal width
 int_text width = ap type_text (sym (rolls-Int width)) ∙ fold-roll-Ty (List ℕ) type_layer (Ty-F.Int width)
 
+-- a number below 100 has at most two digits
 two_digits : (n : ℕ) → 10 ≤ n → n < 100 → decimal n ≡ (48 + n / 10) ∷ (48 + n % 10) ∷ []
 two_digits n l h = decimal_step n l (omega arith) ∙ ap (λ (d : List ℕ). d ++ (48 + n % 10) ∷ []) (decimal_digit (n / 10) (omega arith))
 
+-- an integer type by the digits of its width
 abbrev IntWord : ℕ → List ℕ → Type 0
 IntWord n w = (is_word (codes "i" ++ w) ≡ true) × InTable scalar_types (codes "i" ++ w) (IntTy n)
 
@@ -78,11 +82,13 @@ int_word = width_by (λ n. IntWord n (decimal n))
   (int_word_as 32 (codes "32") (two_digits 32 (omega arith) (omega arith)) (refl, inr (inr (inr (inl (refl, refl))))))
   (int_word_as 64 (codes "64") (two_digits 64 (omega arith) (omega arith)) (refl, inr (inr (inr (inr (inl (refl, refl)))))))
 
+-- a register's type
 pub scalar_word : (ty : Ty) → is_scalar ty ≡ true → TypeWord scalar_types ty
 scalar_word (IntTy width) h = let w = int_word width h in type_word_as scalar_types (IntTy width) (codes "i" ++ decimal width) (int_text width) w.0 w.1
 scalar_word Ptr h = type_word_as scalar_types Ptr (codes "ptr") ptr_text refl (inr (inr (inr (inr (inr (inl (refl, refl)))))))
 scalar_word _ h = absurd (let f : false ≡ true = h in cc)
 
+-- a type that a result has
 abbrev pub is_result : Ty → Bool
 is_result Void = true
 is_result ty = is_scalar ty
@@ -104,10 +110,6 @@ shows_result ty h = shows_in result_types (type_text ty) ty (result_word ty h).1
 
 -- ---- numbers
 
-half_of : (width : ℕ) → 0 < width → 2 ^ width ≡ 2 ^ (width - 1) + 2 ^ (width - 1)
-half_of zero h = absurd (omega arith)
-half_of (suc k) h = let e : suc k - 1 ≡ k = omega arith in rw e (two-pow-succ k)
-
 -- how a number of a width is printed
 pub data Shown (width n : ℕ) : Type 0 where
   truth : width ≡ 1 → (n ≡ 0) ⊎ (n ≡ 1) → Shown width n
@@ -117,9 +119,11 @@ pub data Shown (width n : ℕ) : Type 0 where
 pow_some : (width : ℕ) → 0 < 2 ^ width
 pow_some width = let two : 0 < 2 = omega arith in let l : 0 ≤ width = omega arith in let p : 2 ^ 0 ≤ 2 ^ width = pow-le-pow_right two l in omega arith
 
+-- a width is from 1 to 64
 pub width_bounds : (width : ℕ) → is_width width ≡ true → (0 < width) × (width ≤ 64)
 width_bounds = width_by (λ n. (0 < n) × (n ≤ 64)) (omega arith, omega arith) (omega arith, omega arith) (omega arith, omega arith) (omega arith, omega arith) (omega arith, omega arith)
 
+-- its numbers are numbers of 64 bits
 pub pow_bounds : (width : ℕ) → is_width width ≡ true → (2 ^ width ≤ 2 ^ 64) × (2 ^ (width - 1) ≤ 2 ^ 63)
 pow_bounds width h =
     let b = width_bounds width h in
@@ -150,6 +154,7 @@ shown_wide width n h e l false k =
     let low = ltb-false n (2 ^ (width - 1)) k in
     minus e (2 ^ width - n) (if_true _ _ _ (lt-ltb n (2 ^ width) l) ∙ if_false _ _ _ e ∙ if_false _ _ _ k) (omega arith) (omega arith) (omega arith) (pow_some width) (omega arith)
 
+-- each number of a width is printed in one of these ways
 pub shown : (width n : ℕ) → is_width width ≡ true → n < 2 ^ width → Shown width n
 shown width n h l = by (width == 1) refl
   where
@@ -165,6 +170,7 @@ number_kind _ = Number
 abbrev pub number_bare : Ty → ℕ → Bare
 number_bare ty n = bare (number_kind ty) (number_text ty n)
 
+-- true and false stand for 1 and 0
 shows_truth : (n : ℕ) → (n ≡ 0) ⊎ (n ≡ 1) → Shows (IsValue (IntTy 1)) (number_bare (IntTy 1) n) (λ x. x ≡ IntValue n)
 shows_truth n (inl z) = subst (λ n. Shows (IsValue (IntTy 1)) (number_bare (IntTy 1) n) (λ x. x ≡ IntValue n)) (sym z) (λ t e. let r = shows_in truth_words (codes "false") 0 (inr (inl (refl, refl))) t e in (IntValue 0, inr (subst (IsWordIn truth_words t) r.2 r.1), refl))
 shows_truth n (inr z) = subst (λ n. Shows (IsValue (IntTy 1)) (number_bare (IntTy 1) n) (λ x. x ≡ IntValue n)) (sym z) (λ t e. let r = shows_in truth_words (codes "true") 1 (inl (refl, refl)) t e in (IntValue 1, inr (subst (IsWordIn truth_words t) r.2 r.1), refl))
@@ -180,6 +186,7 @@ shows_by width n (truth e z) = subst (λ w. Shows (IsValue (IntTy w)) (number_ba
 shows_by width n (plain w e h l) = shows_digits width n (decimal n) w e (plain_in_range n h) (plain_kept width n h l)
 shows_by width n (minus w k e h l s p d) = shows_digits width n (45 ∷ decimal k) w e (minus_in_range k h) (minus_kept width k (omega arith) l s p ∙ d)
 
+-- the token of a printed number stands for the number
 pub shows_number : (width n : ℕ) → is_width width ≡ true → n < 2 ^ width → Shows (IsValue (IntTy width)) (number_bare (IntTy width) n) (λ x. x ≡ IntValue n)
 shows_number width n h l = shows_by width n (shown width n h l)
 
@@ -200,11 +207,13 @@ lexed_by width n rest ls (truth e z) k r = subst (λ w. Lexed (number_text (IntT
 lexed_by width n rest ls (plain w e h l) k r = digits_lexed width n rest ls (decimal n) w e (number_lexed (decimal n) rest ls (decimal_nonempty n h) (decimal_digits n h) k r)
 lexed_by width n rest ls (minus w m e h l s p d) k r = let small : m < 2 ^ 64 = omega arith in digits_lexed width n rest ls (45 ∷ decimal m) w e (minus_lexed (decimal m) rest ls (decimal_nonempty m small) (decimal_digits m small) k r)
 
+-- a printed number is one token
 pub number_lexed_at : (width n : ℕ) (rest : List ℕ) (ls : List Bare) → is_width width ≡ true → n < 2 ^ width → Ends rest → Lexed rest ls → Lexed (number_text (IntTy width) n ++ rest) (number_bare (IntTy width) n ∷ ls)
 number_lexed_at width n rest ls h l e r = lexed_by width n rest ls (shown width n h l) e r
 
 -- ---- operands
 
+-- the token of an operand
 abbrev pub value_bare : Ty → Value → Bare
 value_bare ty (IntValue n) = number_bare ty n
 value_bare ty Null = bare Word (codes "null")
@@ -218,6 +227,7 @@ GoodValue ty Null = Unit {0}
 GoodValue ty (Register x) = is_word x ≡ true
 GoodValue ty (GlobalValue x) = is_word x ≡ true
 
+-- a word is printed as it is
 pub plain_name : (x : List ℕ) → is_word x ≡ true → name_text x ≡ x
 plain_name x h = if_true _ _ _ h
 
@@ -231,12 +241,14 @@ any_number_lexed : (ty : Ty) (n : ℕ) (rest : List ℕ) (ls : List Bare) → is
 any_number_lexed (IntTy width) n rest ls s h e r = number_lexed_at width n rest ls s (ltb-true n (2 ^ width) h) e r
 any_number_lexed _ n rest ls s h e r = absurd (let f : false ≡ true = h in cc)
 
+-- a printed operand is one token
 pub value_lexed : (ty : Ty) (v : Value) (rest : List ℕ) (ls : List Bare) → is_scalar ty ≡ true → GoodValue ty v → Ends rest → Lexed rest ls → Lexed (value_text ty v ++ rest) (value_bare ty v ∷ ls)
 value_lexed ty (IntValue n) rest ls s h e r = any_number_lexed ty n rest ls s h e r
 value_lexed ty Null rest ls s h e r = word_lexed (codes "null") rest ls refl e r
 value_lexed ty (Register x) rest ls s h e r = local_text_lexed x rest ls h e r
 value_lexed ty (GlobalValue x) rest ls s h e r = global_text_lexed x rest ls h e r
 
+-- a name behind its sign stands for the name
 pub shows_local : (x : List ℕ) → Shows IsLocal (bare Local (37 ∷ x)) (λ y. y ≡ x)
 shows_local x t e = (x, (ap (λ (b : Bare). b.kind) e, ap (λ (b : Bare). drop 1 b.bytes) e), refl)
 
@@ -247,6 +259,7 @@ shows_any_number : (ty : Ty) (n : ℕ) → is_scalar ty ≡ true → is_number_o
 shows_any_number (IntTy width) n s h = shows_number width n s (ltb-true n (2 ^ width) h)
 shows_any_number _ n s h = absurd (let f : false ≡ true = h in cc)
 
+-- the token of an operand stands for it
 pub shows_value : (ty : Ty) (v : Value) → is_scalar ty ≡ true → GoodValue ty v → Shows (IsValue ty) (value_bare ty v) (λ x. x ≡ v)
 shows_value ty (IntValue n) s h = shows_any_number ty n s h
 shows_value ty Null s h = λ t e. (Null, (ap (λ (b : Bare). b.kind) e, ap (λ (b : Bare). b.bytes) e, refl), refl)
@@ -255,12 +268,14 @@ shows_value ty (GlobalValue x) s h = λ t e. (GlobalValue x, (ap (λ (b : Bare).
 
 -- ---- operands with their types
 
+-- an operand with its type that can be read back
 abbrev pub GoodTyped : Typed → Type 0
 GoodTyped v = (is_scalar v.ty ≡ true) × GoodValue v.ty v.value
 
 abbrev pub typed_bare : Typed → List Bare
 typed_bare v = type_bare v.ty ∷ value_bare v.ty v.value ∷ []
 
+-- texts of operands and of types
 pub gives_value_text : (ty : Ty) (v : Value) → is_scalar ty ≡ true → GoodValue ty v → Gives (value_text ty v) (value_bare ty v ∷ [])
 gives_value_text ty v s h = record { before = λ rest ms e r. value_lexed ty v rest ms s h e r }
 
@@ -282,8 +297,10 @@ gives_local x h = record { before = λ rest ms e r. local_text_lexed x rest ms h
 pub gives_global : (x : List ℕ) → is_word x ≡ true → Gives (global_name_text x) (global_bare x ∷ [])
 gives_global x h = record { before = λ rest ms e r. global_text_lexed x rest ms h e r }
 
+-- an operand with its type
 pub gives_typed : (v : Typed) → GoodTyped v → Gives (typed_text v) (typed_bare v)
 gives_typed v h = closes_gives (closes_word (type_text v.ty) (scalar_word v.ty h.0).0) (gives_value_text v.ty v.value h.0 h.1)
 
+-- its tokens spell it
 pub typed_spelled : (v : Typed) → GoodTyped v → Spelled typed (typed_bare v) (λ x. x ≡ v)
 typed_spelled v h = token_same (shows_scalar v.ty h.0) (token_same (shows_value v.ty v.value h.0 h.1) (spelled_done v (λ x. x ≡ v) refl))
