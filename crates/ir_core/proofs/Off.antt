@@ -191,8 +191,8 @@ user_off is e =
     let p = and_parts (list_all is_user_inst (user_code is)) (is_end (drop (length is - 2) is)) e in
     let n : length (map inst_off is) - 2 ≡ length is - 2 = ap (λ n. n - 2) (length-map is inst_off) in
     and_from _ _
-      (ap (λ n. list_all is_user_inst (take n (map inst_off is))) n ∙ ap (list_all is_user_inst) (take-map inst_off (length is - 2) is) ∙ users_same (user_code is) ∙ p.0)
-      (ap (λ n. is_end (drop n (map inst_off is))) n ∙ ap is_end (drop-map inst_off (length is - 2) is) ∙ end_off (drop (length is - 2) is) p.1)
+    (ap (λ n. list_all is_user_inst (take n (map inst_off is))) n ∙ ap (list_all is_user_inst) (take-map inst_off (length is - 2) is) ∙ users_same (user_code is) ∙ p.0)
+    (ap (λ n. is_end (drop n (map inst_off is))) n ∙ ap is_end (drop-map inst_off (length is - 2) is) ∙ end_off (drop (length is - 2) is) p.1)
 
 exit_off : (is : List Inst) → is_exit is ≡ true → is_exit (map inst_off is) ≡ true
 exit_off (a ∷ []) e = return_off a e

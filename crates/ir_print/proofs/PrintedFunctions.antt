@@ -85,9 +85,9 @@ block_spelled b g =
     let e : flat_map inst_bare b.insts ≡ flat_map inst_bare g.plains ++ inst_bare g.last = ap (flat_map inst_bare) g.insts ∙ flat_last inst_bare g.plains g.last in
     let Q : Block → Type 0 = λ n. block_unlined b ≡ block_unlined n in
     token_then (shows_line (shows_label b.name)) (λ label p.
-      spelled_as (sym e) (spelled_then {ls = flat_map inst_bare g.plains} {ms = inst_bare g.last} {Q = Q} (spelled_many plain inst_bare inst_unlined g.plains (each_plain g.plains g.plains_good)) (λ is q.
-        spelled_as (append-nil (inst_bare g.last)) (spelled_then {ls = inst_bare g.last} {ms = []} {Q = Q} (last_spelled g.last g.last_good) (λ end r.
-          spelled_done (record { name = label.0; insts = is ++ end ∷ []; line = label.1 }) Q (block_same b g label.0 is end label.1 p q r))))))
+    spelled_as (sym e) (spelled_then {ls = flat_map inst_bare g.plains} {ms = inst_bare g.last} {Q = Q} (spelled_many plain inst_bare inst_unlined g.plains (each_plain g.plains g.plains_good)) (λ is q.
+    spelled_as (append-nil (inst_bare g.last)) (spelled_then {ls = inst_bare g.last} {ms = []} {Q = Q} (last_spelled g.last g.last_good) (λ end r.
+    spelled_done (record { name = label.0; insts = is ++ end ∷ []; line = label.1 }) Q (block_same b g label.0 is end label.1 p q r))))))
 
 -- ---- headings
 
@@ -127,7 +127,7 @@ closes_none = record { before = λ rest ms r. r }
 heading_closes : (name : List ℕ) (ret : Ty) (params : List Param) (blocks : List Block) (line : ℕ) (show : Param → List ℕ) (tokens : Param → List Bare) → is_word name ≡ true → is_result ret ≡ true → EachGives show tokens params → Closes (heading_text (bare_function name ret params blocks line) (map show params)) (heading_bare ret name (listed 41 tokens params))
 heading_closes name ret params blocks line show tokens n r h =
     closes_as (append-nil (heading_bare ret name (listed 41 tokens params)))
-      (closes_then (closes_with_list 41 show tokens params refl (gives_closes (closes_gives (gives_closes (gives_result ret r) closes_space (λ rest. refl)) (gives_global name n)) (closes_mark 40 refl) (λ rest. refl)) h) closes_none)
+    (closes_then (closes_with_list 41 show tokens params refl (gives_closes (closes_gives (gives_closes (gives_result ret r) closes_space (λ rest. refl)) (gives_global name n)) (closes_mark 40 refl) (λ rest. refl)) h) closes_none)
 
 each_param : (ps : List Param) → AllScalar ps → AllNamed ps → EachGives param_text param_bare ps
 each_param [] s n = tt
@@ -176,9 +176,9 @@ body_spelled b bs h =
     let Q : List Block → Type 0 = λ ys. map block_unlined (b ∷ bs) ≡ map block_unlined ys in
     let close : List Bare = bare (Mark 125) (125 ∷ []) ∷ [] in
     token_then (shows_mark 123) (λ line u.
-      spelled_as (sym (append_assoc (block_bare b) (flat_map block_bare bs) close)) (spelled_then {ls = block_bare b} {ms = flat_map block_bare bs ++ close} {Q = Q} (block_spelled b h.0) (λ first p.
-        spelled_then {ls = flat_map block_bare bs} {ms = close} {Q = Q} (spelled_many block block_bare block_unlined bs (blocks_spelled bs h.1)) (λ more q.
-          token_then (shows_mark 125) (λ l v. spelled_done (first ∷ more) Q (λ i. p i ∷ q i))))))
+    spelled_as (sym (append_assoc (block_bare b) (flat_map block_bare bs) close)) (spelled_then {ls = block_bare b} {ms = flat_map block_bare bs ++ close} {Q = Q} (block_spelled b h.0) (λ first p.
+    spelled_then {ls = flat_map block_bare bs} {ms = close} {Q = Q} (spelled_many block block_bare block_unlined bs (blocks_spelled bs h.1)) (λ more q.
+    token_then (shows_mark 125) (λ l v. spelled_done (first ∷ more) Q (λ i. p i ∷ q i))))))
 
 -- the tokens of a definition
 abbrev pub define_bare : List ℕ → Ty → List Param → List Block → List Bare
@@ -193,10 +193,11 @@ define_closes : (name : List ℕ) (ret : Ty) (params : List Param) (b : Block) (
 define_closes name ret params b bs line n r s m h =
     let l : List Bare = bare Word (codes "define") ∷ heading_bare ret name (listed 41 param_bare params) in
     closes_as (around l (flat_map block_bare (b ∷ bs)) (bare (Mark 123) (123 ∷ [])) (bare (Mark 125) (125 ∷ [])))
-      (closes_then (closes_then (closes_then (closes_then (closes_word (codes "define") refl) (heading_closes name ret params (b ∷ bs) line param_text param_bare n r (each_param params s m))) opens) (closes_many block_text block_bare (b ∷ bs) (each_block (b ∷ bs) h))) shuts)
+    (closes_then (closes_then (closes_then (closes_then (closes_word (codes "define") refl) (heading_closes name ret params (b ∷ bs) line param_text param_bare n r (each_param params s m))) opens) (closes_many block_text block_bare (b ∷ bs) (each_block (b ∷ bs) h))) shuts)
   where
     opens : Closes (codes " {\n") (bare (Mark 123) (123 ∷ []) ∷ [])
     opens = closes_then closes_space (closes_then (closes_mark 123 refl) closes_line)
+
     shuts : Closes (codes "}\n") (bare (Mark 125) (125 ∷ []) ∷ [])
     shuts = closes_then (closes_mark 125 refl) closes_line
 
@@ -206,10 +207,10 @@ define_spelled name ret params b bs line r s h =
     let Q : Function → Type 0 = λ n. function_unlined (bare_function name ret params (b ∷ bs) line) ≡ function_unlined n in
     let rest : List Bare = body_bare (b ∷ bs) in
     spelled_any Defines (token_then (shows_word (codes "define")) (λ at u.
-      spelled_same {ls = heading_bare ret name []} {ms = listed 41 param_bare params ++ rest} {v = (ret, name)} {Q = Q} (heading_spelled ret name r)
-        (spelled_same {ls = listed 41 param_bare params} {ms = rest} {v = params} {Q = Q} (spelled_list_same 41 param param_bare params (params_spelled params s))
-          (spelled_as (append-nil rest) (spelled_then {ls = rest} {ms = []} {Q = Q} (body_spelled b bs h) (λ ys q.
-            spelled_done (bare_function name ret params ys at) Q (λ i. record { name = name; words = []; ret = ret; params = params; groups = []; blocks = q i; line = 0 })))))))
+    spelled_same {ls = heading_bare ret name []} {ms = listed 41 param_bare params ++ rest} {v = (ret, name)} {Q = Q} (heading_spelled ret name r)
+    (spelled_same {ls = listed 41 param_bare params} {ms = rest} {v = params} {Q = Q} (spelled_list_same 41 param param_bare params (params_spelled params s))
+    (spelled_as (append-nil rest) (spelled_then {ls = rest} {ms = []} {Q = Q} (body_spelled b bs h) (λ ys q.
+    spelled_done (bare_function name ret params ys at) Q (λ i. record { name = name; words = []; ret = ret; params = params; groups = []; blocks = q i; line = 0 })))))))
 
 -- ---- declarations
 
@@ -236,9 +237,9 @@ declare_spelled name ret params line r s e =
     let Q : Function → Type 0 = λ n. function_unlined (bare_function name ret params [] line) ≡ function_unlined n in
     let tys : List Ty = map type_of params in
     spelled_any Declares (token_then (shows_word (codes "declare")) (λ at u.
-      spelled_same {ls = heading_bare ret name []} {ms = listed 41 param_type_bare params} {v = (ret, name)} {Q = Q} (heading_spelled ret name r)
-        (spelled_as (append-nil (listed 41 alone tys) ∙ listed_types params) (spelled_same {ls = listed 41 alone tys} {ms = []} {v = tys} {Q = Q} (spelled_list_same 41 (one IsScalarType) alone tys (types_spelled params s))
-          (spelled_done (bare_function name ret (numbered 0 tys) [] at) Q (λ i. record { name = name; words = []; ret = ret; params = e i; groups = []; blocks = []; line = 0 }))))))
+    spelled_same {ls = heading_bare ret name []} {ms = listed 41 param_type_bare params} {v = (ret, name)} {Q = Q} (heading_spelled ret name r)
+    (spelled_as (append-nil (listed 41 alone tys) ∙ listed_types params) (spelled_same {ls = listed 41 alone tys} {ms = []} {v = tys} {Q = Q} (spelled_list_same 41 (one IsScalarType) alone tys (types_spelled params s))
+    (spelled_done (bare_function name ret (numbered 0 tys) [] at) Q (λ i. record { name = name; words = []; ret = ret; params = e i; groups = []; blocks = []; line = 0 }))))))
 
 -- ---- functions
 
@@ -293,7 +294,7 @@ each_function (f ∷ fs) h = (function_spelled f h.0, each_function fs h.1)
 -- functions to the end of the text
 functions_spelled : (fs : List Function) → AllFunctions fs → Spelled functions_to_end (flat_map function_bare fs ++ []) (λ n. SameButLines (of_functions fs) n)
 functions_spelled fs h = spelled_then {ls = flat_map function_bare fs} {ms = []} {Q = λ n. SameButLines (of_functions fs) n} (spelled_many (any function_of) function_bare function_unlined fs (each_function fs h)) (λ gs q.
-  spelled_done (of_functions gs) (λ n. SameButLines (of_functions fs) n) (λ i. record { prelude = []; types = []; globals = []; functions = q i; tail = [] }))
+    spelled_done (of_functions gs) (λ n. SameButLines (of_functions fs) n) (λ i. record { prelude = []; types = []; globals = []; functions = q i; tail = [] }))
 
 -- the canonical text of good functions gives them back, but for lines
 pub functions_back : (fs : List Function) → AllFunctions fs → length (Text (of_functions fs)) ≤ text_limit → ReadsBack (Text (of_functions fs)) (of_functions fs)

@@ -170,21 +170,21 @@ op_in _ h = absurd (let f : false ≡ true = h in cc)
 bin_spelled : (op : BinOp) (ty : Ty) (a b : Value) → GoodKind (Bin op no_flags ty a b) → Spelled value (kind_bare (Bin op no_flags ty a b)) (λ x. x ≡ Bin op no_flags ty a b)
 bin_spelled op ty a b g =
     token_same (shows_in value_words (bin_op_text op) (Binary op) (op_in op g.0))
-      (token_same (shows_scalar ty g.2) (token_same (shows_value ty a g.2 g.3)
-        (spelled_same {ls = comma ∷ value_bare ty b ∷ []} {ms = []} {v = b} {Q = λ x. x ≡ Bin op no_flags ty a b} (spelled_next_value ty b g.2 g.4) (spelled_done (Bin op no_flags ty a b) (λ x. x ≡ Bin op no_flags ty a b) refl))))
+    (token_same (shows_scalar ty g.2) (token_same (shows_value ty a g.2 g.3)
+    (spelled_same {ls = comma ∷ value_bare ty b ∷ []} {ms = []} {v = b} {Q = λ x. x ≡ Bin op no_flags ty a b} (spelled_next_value ty b g.2 g.4) (spelled_done (Bin op no_flags ty a b) (λ x. x ≡ Bin op no_flags ty a b) refl))))
 
 icmp_spelled : (ty : Ty) (a b : Value) → GoodKind (ICmp Eq ty a b) → Spelled value (kind_bare (ICmp Eq ty a b)) (λ x. x ≡ ICmp Eq ty a b)
 icmp_spelled ty a b g =
     token_same (shows_in value_words (codes "icmp") Compare (inr (inr (inr (inl (refl, refl))))))
-      (token_same (shows_in predicates (codes "eq") Eq (inl (refl, refl)))
-        (token_same (shows_scalar ty g.0) (token_same (shows_value ty a g.0 g.1)
-          (spelled_same {ls = comma ∷ value_bare ty b ∷ []} {ms = []} {v = b} {Q = λ x. x ≡ ICmp Eq ty a b} (spelled_next_value ty b g.0 g.2) (spelled_done (ICmp Eq ty a b) (λ x. x ≡ ICmp Eq ty a b) refl)))))
+    (token_same (shows_in predicates (codes "eq") Eq (inl (refl, refl)))
+    (token_same (shows_scalar ty g.0) (token_same (shows_value ty a g.0 g.1)
+    (spelled_same {ls = comma ∷ value_bare ty b ∷ []} {ms = []} {v = b} {Q = λ x. x ≡ ICmp Eq ty a b} (spelled_next_value ty b g.0 g.2) (spelled_done (ICmp Eq ty a b) (λ x. x ≡ ICmp Eq ty a b) refl)))))
 
 load_spelled : (ty : Ty) (at : Typed) → GoodKind (Load ty at None 0) → Spelled value (kind_bare (Load ty at None 0)) (λ x. x ≡ Load ty at None 0)
 load_spelled ty at g =
     token_same (shows_in value_words (codes "load") LoadForm (inr (inr (inr (inr (inl (refl, refl)))))))
-      (token_same (shows_scalar ty g.0)
-        (spelled_same {ls = comma ∷ typed_bare at} {ms = []} {v = at} {Q = λ x. x ≡ Load ty at None 0} (spelled_next_typed at g.1) (spelled_done (Load ty at None 0) (λ x. x ≡ Load ty at None 0) refl)))
+    (token_same (shows_scalar ty g.0)
+    (spelled_same {ls = comma ∷ typed_bare at} {ms = []} {v = at} {Q = λ x. x ≡ Load ty at None 0} (spelled_next_typed at g.1) (spelled_done (Load ty at None 0) (λ x. x ≡ Load ty at None 0) refl)))
 
 each_spelled : (vs : List Typed) → AllTyped vs → EachSpelled typed typed_bare (λ x. x) vs
 each_spelled [] h = tt
@@ -193,7 +193,7 @@ each_spelled (v ∷ vs) h = (spelled_more (typed_spelled v h.0) (λ x e. sym e),
 call_spelled : (ret : Ty) (callee : List ℕ) (args : List Typed) → GoodKind (Call Absent ret (GlobalValue callee) args) → Spelled call (call_bare ret (GlobalValue callee) args) (λ x. x ≡ Call Absent ret (GlobalValue callee) args)
 call_spelled ret callee args g =
     token_same (shows_result ret g.0) (token_same (shows_global callee) (token_then (shows_mark 40) (λ line u.
-      spelled_as (append-nil (listed 41 typed_bare args)) (spelled_same {ls = listed 41 typed_bare args} {ms = []} {v = args} {Q = λ x. x ≡ Call Absent ret (GlobalValue callee) args} (spelled_list_same 41 typed typed_bare args (each_spelled args g.2)) (spelled_done (Call Absent ret (GlobalValue callee) args) (λ x. x ≡ Call Absent ret (GlobalValue callee) args) refl)))))
+    spelled_as (append-nil (listed 41 typed_bare args)) (spelled_same {ls = listed 41 typed_bare args} {ms = []} {v = args} {Q = λ x. x ≡ Call Absent ret (GlobalValue callee) args} (spelled_list_same 41 typed typed_bare args (each_spelled args g.2)) (spelled_done (Call Absent ret (GlobalValue callee) args) (λ x. x ≡ Call Absent ret (GlobalValue callee) args) refl)))))
 
 -- what stands behind %x = is spelled by its tokens
 pub value_spelled : (k : Kind) → GoodKind k → gives_value k ≡ true → Spelled value (kind_bare k) (λ x. x ≡ k)
@@ -256,23 +256,23 @@ SameUnlined r k n = ◌≡◌ {A = Inst} (record { result = r; kind = k; line = 
 assign_spelled : (x : List ℕ) (k : Kind) → GoodKind k → gives_value k ≡ true → Spelled plain (result_bare (Some x) ++ kind_bare k) (SameUnlined (Some x) k)
 assign_spelled x k g h =
     spelled_any Assigns (token_then (shows_line (shows_local x)) (λ y p. token_then (shows_mark 61) (λ line u.
-      spelled_as (append-nil (kind_bare k)) (spelled_then {ls = kind_bare k} {ms = []} {Q = SameUnlined (Some x) k} (value_spelled k g h) (λ l q.
-        spelled_done (record { result = Some y.0; kind = l; line = y.1 }) (SameUnlined (Some x) k) (λ i. record { result = Some (sym p i); kind = sym q i; line = 0 }))))))
+    spelled_as (append-nil (kind_bare k)) (spelled_then {ls = kind_bare k} {ms = []} {Q = SameUnlined (Some x) k} (value_spelled k g h) (λ l q.
+    spelled_done (record { result = Some y.0; kind = l; line = y.1 }) (SameUnlined (Some x) k) (λ i. record { result = Some (sym p i); kind = sym q i; line = 0 }))))))
 
 store_spelled : (v at : Typed) → GoodKind (Store v at None 0) → Spelled plain (kind_bare (Store v at None 0)) (SameUnlined None (Store v at None 0))
 store_spelled v at g =
     spelled_any Stores (token_then (shows_word (codes "store")) (λ line u.
-      spelled_same {ls = typed_bare v} {ms = comma ∷ typed_bare at} {v = v} {Q = SameUnlined None (Store v at None 0)} (typed_spelled v g.0)
-        (spelled_same {ls = comma ∷ typed_bare at} {ms = []} {v = at} {Q = SameUnlined None (Store v at None 0)} (spelled_next_typed at g.1)
-          (spelled_done (record { result = None; kind = Store v at None 0; line = line }) (SameUnlined None (Store v at None 0)) refl))))
+    spelled_same {ls = typed_bare v} {ms = comma ∷ typed_bare at} {v = v} {Q = SameUnlined None (Store v at None 0)} (typed_spelled v g.0)
+    (spelled_same {ls = comma ∷ typed_bare at} {ms = []} {v = at} {Q = SameUnlined None (Store v at None 0)} (spelled_next_typed at g.1)
+    (spelled_done (record { result = None; kind = Store v at None 0; line = line }) (SameUnlined None (Store v at None 0)) refl))))
 
 bare_call_spelled : (ret : Ty) (callee : List ℕ) (args : List Typed) → GoodKind (Call Absent ret (GlobalValue callee) args) → Spelled plain (kind_bare (Call Absent ret (GlobalValue callee) args)) (SameUnlined None (Call Absent ret (GlobalValue callee) args))
 bare_call_spelled ret callee args g =
     let k = Call Absent ret (GlobalValue callee) args in
     let l = call_bare ret (GlobalValue callee) args in
     spelled_any Calls (token_then (shows_word (codes "call")) (λ line u.
-      spelled_as (append-nil l) (spelled_same {ls = l} {ms = []} {v = k} {Q = SameUnlined None k} (call_spelled ret callee args g)
-        (spelled_done (record { result = None; kind = k; line = line }) (SameUnlined None k) refl))))
+    spelled_as (append-nil l) (spelled_same {ls = l} {ms = []} {v = k} {Q = SameUnlined None k} (call_spelled ret callee args g)
+    (spelled_done (record { result = None; kind = k; line = line }) (SameUnlined None k) refl))))
 
 -- an instruction without a result
 effect_spelled : (k : Kind) → GoodKind k → has_effect k ≡ true → Spelled plain (kind_bare k) (SameUnlined None k)
@@ -302,15 +302,15 @@ cond_spelled : (cond : Typed) (then_to else_to : List ℕ) → GoodTyped cond �
 cond_spelled cond then_to else_to g =
     let Q : Kind → Type 0 = λ k. k ≡ CondBr cond then_to else_to in
     spelled_any Tested (spelled_same {ls = typed_bare cond} {ms = comma ∷ (target_bare then_to ++ comma ∷ target_bare else_to)} {v = cond} {Q = Q} (typed_spelled cond g)
-      (spelled_same {ls = comma ∷ target_bare then_to} {ms = comma ∷ target_bare else_to} {v = then_to} {Q = Q} (spelled_next_target then_to)
-        (spelled_same {ls = comma ∷ target_bare else_to} {ms = []} {v = else_to} {Q = Q} (spelled_next_target else_to)
-          (spelled_done (CondBr cond then_to else_to) Q refl))))
+    (spelled_same {ls = comma ∷ target_bare then_to} {ms = comma ∷ target_bare else_to} {v = then_to} {Q = Q} (spelled_next_target then_to)
+    (spelled_same {ls = comma ∷ target_bare else_to} {ms = []} {v = else_to} {Q = Q} (spelled_next_target else_to)
+    (spelled_done (CondBr cond then_to else_to) Q refl))))
 
 branch_spelled : (k : Kind) (ls : List Bare) → Spelled (any branch_of) ls (λ x. x ≡ k) → Spelled (any last_of) (bare Word (codes "br") ∷ ls) (SameUnlined None k)
 branch_spelled k ls s =
     spelled_any Branches (token_then (shows_word (codes "br")) (λ line u.
-      spelled_as (append-nil ls) (spelled_same {ls = ls} {ms = []} {v = k} {Q = SameUnlined None k} s
-        (spelled_done (record { result = None; kind = k; line = line }) (SameUnlined None k) refl))))
+    spelled_as (append-nil ls) (spelled_same {ls = ls} {ms = []} {v = k} {Q = SameUnlined None k} s
+    (spelled_done (record { result = None; kind = k; line = line }) (SameUnlined None k) refl))))
 
 -- what ends a block
 end_spelled : (k : Kind) → GoodKind k → ends_block k ≡ true → Spelled (any last_of) (kind_bare k) (SameUnlined None k)

@@ -18,9 +18,9 @@ value_append n (x ∷ xs) ys = value_append (10 * n + (x - 48)) xs ys
 -- the printed digits of a number spell it
 pub decimal_value : (n : ℕ) → n < 2 ^ 64 → value_of (decimal n) ≡ n
 decimal_value n h = decimal_by_steps (λ n ds. value_of ds ≡ n)
-  (λ n digit. let e : 10 * 0 + (48 + n - 48) ≡ n = omega arith in e)
-  (λ n ds big below. value_append 0 ds ((48 + n % 10) ∷ []) ∙ ap (λ k. 10 * k + (48 + n % 10 - 48)) below ∙ (let e : 10 * (n / 10) + (48 + n % 10 - 48) ≡ n = omega arith in e))
-  n h
+    (λ n digit. let e : 10 * 0 + (48 + n - 48) ≡ n = omega arith in e)
+    (λ n ds big below. value_append 0 ds ((48 + n % 10) ∷ []) ∙ ap (λ k. 10 * k + (48 + n % 10 - 48)) below ∙ (let e : 10 * (n / 10) + (48 + n % 10 - 48) ≡ n = omega arith in e))
+    n h
 
 -- a digit is one byte
 digit_of : (n : ℕ) → n < 10 → digit_byte (48 + n) ≡ true
@@ -39,9 +39,9 @@ digit_of (suc (suc (suc (suc (suc (suc (suc (suc (suc (suc n)))))))))) h = absur
 -- a number is printed in digits
 pub decimal_digits : (n : ℕ) → n < 2 ^ 64 → every digit_byte (decimal n) ≡ true
 decimal_digits n h = decimal_by_steps (λ n ds. every digit_byte ds ≡ true)
-  (λ n digit. every_more digit_byte (48 + n) [] (digit_of n digit) refl)
-  (λ n ds big below. every_append digit_byte ds ((48 + n % 10) ∷ []) below (every_more digit_byte (48 + n % 10) [] (digit_of (n % 10) (omega arith)) refl))
-  n h
+    (λ n digit. every_more digit_byte (48 + n) [] (digit_of n digit) refl)
+    (λ n ds big below. every_append digit_byte ds ((48 + n % 10) ∷ []) below (every_more digit_byte (48 + n % 10) [] (digit_of (n % 10) (omega arith)) refl))
+    n h
 
 -- digits do not begin with a -
 no_minus : (ds : List ℕ) → every digit_byte ds ≡ true → is_negative ds ≡ false

@@ -32,15 +32,19 @@ width_by P a b c d e n h = one_ (if_or _ _ h)
   where
     five : (n == 64) ≡ true → P n
     five k = subst P (sym (eqb-true n 64 k)) e
+
     four : ((n == 32) ≡ true) ⊎ ((n == 64) ≡ true) → P n
     four (inl k) = subst P (sym (eqb-true n 32 k)) d
     four (inr k) = five k
+
     three : ((n == 16) ≡ true) ⊎ (cond (n == 32) true (n == 64) ≡ true) → P n
     three (inl k) = subst P (sym (eqb-true n 16 k)) c
     three (inr k) = four (if_or _ _ k)
+
     two : ((n == 8) ≡ true) ⊎ (cond (n == 16) true (cond (n == 32) true (n == 64)) ≡ true) → P n
     two (inl k) = subst P (sym (eqb-true n 8 k)) b
     two (inr k) = three (if_or _ _ k)
+
     one_ : ((n == 1) ≡ true) ⊎ (cond (n == 8) true (cond (n == 16) true (cond (n == 32) true (n == 64))) ≡ true) → P n
     one_ (inl k) = subst P (sym (eqb-true n 1 k)) a
     one_ (inr k) = two (if_or _ _ k)
@@ -76,11 +80,11 @@ int_word_as n w e h = subst (IntWord n) (sym e) h
 
 int_word : (width : ℕ) → is_width width ≡ true → IntWord width (decimal width)
 int_word = width_by (λ n. IntWord n (decimal n))
-  (int_word_as 1 (codes "1") (decimal_digit 1 (omega arith)) (refl, inl (refl, refl)))
-  (int_word_as 8 (codes "8") (decimal_digit 8 (omega arith)) (refl, inr (inl (refl, refl))))
-  (int_word_as 16 (codes "16") (two_digits 16 (omega arith) (omega arith)) (refl, inr (inr (inl (refl, refl)))))
-  (int_word_as 32 (codes "32") (two_digits 32 (omega arith) (omega arith)) (refl, inr (inr (inr (inl (refl, refl))))))
-  (int_word_as 64 (codes "64") (two_digits 64 (omega arith) (omega arith)) (refl, inr (inr (inr (inr (inl (refl, refl)))))))
+    (int_word_as 1 (codes "1") (decimal_digit 1 (omega arith)) (refl, inl (refl, refl)))
+    (int_word_as 8 (codes "8") (decimal_digit 8 (omega arith)) (refl, inr (inl (refl, refl))))
+    (int_word_as 16 (codes "16") (two_digits 16 (omega arith) (omega arith)) (refl, inr (inr (inl (refl, refl)))))
+    (int_word_as 32 (codes "32") (two_digits 32 (omega arith) (omega arith)) (refl, inr (inr (inr (inl (refl, refl))))))
+    (int_word_as 64 (codes "64") (two_digits 64 (omega arith) (omega arith)) (refl, inr (inr (inr (inr (inl (refl, refl)))))))
 
 -- a register's type
 pub scalar_word : (ty : Ty) → is_scalar ty ≡ true → TypeWord scalar_types ty
