@@ -13,6 +13,8 @@ mod real_tests;
 mod remarks;
 mod reply;
 mod top;
+#[cfg(test)]
+mod top_tests;
 mod transfer;
 
 pub use memory::{NamedFile, SureInputs, SureSink};

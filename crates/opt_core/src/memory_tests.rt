@@ -9,7 +9,7 @@ use std::alloc::{AllocError, Global};
 use std::test::Fail;
 
 // Inputs that hold one file.
-fn one_file(alloc: Global, name: &str, text: Vec<u8>) -> Result<SureInputs, AllocError>
+pub fn one_file(alloc: Global, name: &str, text: Vec<u8>) -> Result<SureInputs, AllocError>
     ensures { IfOk result (λ inputs. Contains (names_of inputs) name.now) }
 {
     let mut files = List::new(alloc);
