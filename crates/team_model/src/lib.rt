@@ -41,3 +41,13 @@ pub struct Trapping {
     pub line: u32,
     pub trap: Trap,
 }
+
+ghost use Rattle.std.specs.Prelude.{◌≡◌, ◌++◌, List, ℕ};
+ghost use Rattle.ir_core.specs.declared.module.Module.{Module};
+ghost use Rattle.mem_model.specs.Runs.{run, then_run};
+ghost use Rattle.team_model.specs.Team.{Team, team_step};
+
+/// A run of a schedule cut in two is the run of the second part from the state after the first.
+pub fn run_in_two()
+    ensures { (m : Module) (first second : List ℕ) (s : Team) → run (team_step m) (first ++ second) s ≡ then_run (run (team_step m) first s) (run (team_step m) second) }
+{}
