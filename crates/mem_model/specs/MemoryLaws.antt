@@ -1,0 +1,99 @@
+-- Laws of the memory: what each test of an access answers, and that a load gives what was stored.
+use Rattle.std.specs.Prelude.{ℕ, ◌+◌, ◌^◌, ◌<◌, ◌≤◌, ◌≡◌, ℤ, pos, negsuc, Bool, true, false, Option, Some, None, Result, Ok, Err}
+use Rattle.std.specs.FinMap as fin
+use Rattle.mem_model.specs.declared.memory.BlockName.{BlockName}
+use Rattle.mem_model.specs.declared.memory.BlockName.TheVariants.{Heap}
+use Rattle.mem_model.specs.declared.memory.Ptr.{Ptr}
+use Rattle.mem_model.specs.declared.memory.Ptr.TheVariants.{Num as Number, At}
+use Rattle.mem_model.specs.declared.memory.Word.{Word}
+use Rattle.mem_model.specs.declared.memory.Word.TheVariants.{Int, Ptr as Address}
+use Rattle.mem_model.specs.declared.memory.Cell.{Cell}
+use Rattle.mem_model.specs.declared.memory.Cell.TheVariants.{Int as IntCell, Ptr as PtrCell}
+use Rattle.mem_model.specs.declared.step.Trap.{Trap}
+use Rattle.mem_model.specs.declared.step.Trap.TheVariants.{NoBlock, Released, OutOfBlock, Constant, StackLeak, TooLarge}
+use Rattle.mem_model.specs.Words.{cell_size, word_bytes, word_in}
+use Rattle.mem_model.specs.Memory.{Memory, Header, Given, Shares, Leaks, Load, Store, Allocate, Release, block_limit}
+
+-- ---- the tests of an access, in their order
+
+-- so many bytes at an offset lie whole in a block of this size
+abbrev pub Lies : ℕ → ℤ → ℕ → Type 0
+Lies size (pos offset) count = offset + count ≤ size
+Lies size (negsuc offset) count = ⊥
+
+-- a pointer that is a number leads to no block
+abbrev pub NumberTraps : Type 0
+NumberTraps = (m : Memory) (n : ℕ) (cell : Cell) (given : Given) → (Load m (Number n) cell ≡ Err NoBlock) × (Store m (Number n) cell given ≡ Err NoBlock)
+
+-- nor does a pointer into a block that isn't there
+abbrev pub MissingTraps : Type 0
+MissingTraps = (m : Memory) (block : BlockName) (offset : ℤ) (cell : Cell) (given : Given) → fin.get m.blocks block ≡ None → (Load m (At block offset) cell ≡ Err NoBlock) × (Store m (At block offset) cell given ≡ Err NoBlock)
+
+-- a released block, whatever the offset
+abbrev pub ReleasedTraps : Type 0
+ReleasedTraps = (m : Memory) (block : BlockName) (offset : ℤ) (cell : Cell) (given : Given) (header : Header) → fin.get m.blocks block ≡ Some header → header.released ≡ true → (Load m (At block offset) cell ≡ Err Released) × (Store m (At block offset) cell given ≡ Err Released)
+
+-- bytes that don't lie whole in their block, also where it is constant
+abbrev pub OutsideTraps : Type 0
+OutsideTraps = (m : Memory) (block : BlockName) (offset : ℤ) (cell : Cell) (given : Given) (header : Header) → fin.get m.blocks block ≡ Some header → header.released ≡ false → (Lies header.size offset (cell_size cell) → ⊥) → (Load m (At block offset) cell ≡ Err OutOfBlock) × (Store m (At block offset) cell given ≡ Err OutOfBlock)
+
+-- a store to a constant, also of a stack address
+abbrev pub ConstantTraps : Type 0
+ConstantTraps = (m : Memory) (block : BlockName) (offset : ℤ) (cell : Cell) (given : Given) (header : Header) → fin.get m.blocks block ≡ Some header → header.released ≡ false → Lies header.size offset (cell_size cell) → header.constant ≡ true → Store m (At block offset) cell given ≡ Err Constant
+
+-- a stack address, where all other tests pass
+abbrev pub LeakTraps : Type 0
+LeakTraps = (m : Memory) (block : BlockName) (offset : ℤ) (cell : Cell) (header : Header) → fin.get m.blocks block ≡ Some header → header.released ≡ false → Lies header.size offset (cell_size cell) → header.constant ≡ false → Store m (At block offset) cell Leaks ≡ Err StackLeak
+
+-- ---- blocks come and go
+
+-- no block is above the limit
+abbrev pub LargeTraps : Type 0
+LargeTraps = (m : Memory) (block : BlockName) (size : ℕ) (constant : Bool) → block_limit < size → Allocate m block size constant ≡ Err TooLarge
+
+abbrev pub InHeap : Ptr → Type 0
+InHeap (At (Heap n) offset) = Unit {0}
+InHeap _ = ⊥
+
+-- the pointer is the block's beginning, and the count its size
+abbrev pub IsAll : ℕ → ℤ → ℕ → Type 0
+IsAll size offset count = (offset ≡ pos 0) × (count ≡ size)
+
+-- only a heap block is released
+abbrev pub OthersStay : Type 0
+OthersStay = (m : Memory) (p : Ptr) (count : ℕ) → (InHeap p → ⊥) → Release m p count ≡ Err NoBlock
+
+-- one that is there
+abbrev pub MissingStays : Type 0
+MissingStays = (m : Memory) (n : ℕ) (offset : ℤ) (count : ℕ) → fin.get m.blocks (Heap n) ≡ None → Release m (At (Heap n) offset) count ≡ Err NoBlock
+
+-- once
+abbrev pub ReleasedStays : Type 0
+ReleasedStays = (m : Memory) (n : ℕ) (offset : ℤ) (count : ℕ) (header : Header) → fin.get m.blocks (Heap n) ≡ Some header → header.released ≡ true → Release m (At (Heap n) offset) count ≡ Err Released
+
+-- and whole
+abbrev pub PartStays : Type 0
+PartStays = (m : Memory) (n : ℕ) (offset : ℤ) (count : ℕ) (header : Header) → fin.get m.blocks (Heap n) ≡ Some header → header.released ≡ false → (IsAll header.size offset count → ⊥) → Release m (At (Heap n) offset) count ≡ Err OutOfBlock
+
+-- ---- words
+
+-- the word is of the cell's kind, and in its range
+abbrev pub Holds : Cell → Word → Type 0
+Holds (IntCell width) (Int n) = n < 2 ^ width
+Holds PtrCell (Address (Number n)) = n < 2 ^ 64
+Holds PtrCell (Address (At block offset)) = Unit {0}
+Holds _ _ = ⊥
+
+-- the bytes of a word hold that word
+abbrev pub WordComesBack : Type 0
+WordComesBack = (cell : Cell) (word : Word) → Holds cell word → word_in cell (word_bytes cell word) ≡ Ok word
+
+-- ---- loads behind stores
+
+-- a load behind a store of the same cell gives the word that was stored
+abbrev pub StoreThenLoad : Type 0
+StoreThenLoad = (m after : Memory) (p : Ptr) (cell : Cell) (word : Word) → Holds cell word → Store m p cell (Shares word) ≡ Ok after → Load after p cell ≡ Ok word
+
+-- a store changes no load of another block
+abbrev pub OtherBlockStays : Type 0
+OtherBlockStays = (m after : Memory) (block other : BlockName) (offset place : ℤ) (cell read : Cell) (given : Given) → (other ≡ block → ⊥) → Store m (At block offset) cell given ≡ Ok after → Load after (At other place) read ≡ Load m (At other place) read

@@ -1,0 +1,57 @@
+//! Laws of the memory.
+ghost use Rattle.mem_model.specs.MemoryLaws.{NumberTraps, MissingTraps, ReleasedTraps, OutsideTraps, ConstantTraps, LeakTraps, LargeTraps, OthersStay, MissingStays, ReleasedStays, PartStays};
+
+/// A pointer that is a number leads to no block.
+pub fn number_traps()
+    ensures { NumberTraps }
+{}
+
+/// Nor does a pointer into a block that isn't there.
+pub fn missing_traps()
+    ensures { MissingTraps }
+{}
+
+/// A released block traps, whatever the offset.
+pub fn released_traps()
+    ensures { ReleasedTraps }
+{}
+
+/// Bytes that don't lie whole in their block trap, also where it is constant.
+pub fn outside_traps()
+    ensures { OutsideTraps }
+{}
+
+/// A store to a constant traps, also of a stack address.
+pub fn constant_traps()
+    ensures { ConstantTraps }
+{}
+
+/// A stack address traps where all other tests pass.
+pub fn leak_traps()
+    ensures { LeakTraps }
+{}
+
+/// No block is above the limit.
+pub fn large_traps()
+    ensures { LargeTraps }
+{}
+
+/// Only a heap block is released.
+pub fn others_stay()
+    ensures { OthersStay }
+{}
+
+/// A block is released only if it is there.
+pub fn missing_stays()
+    ensures { MissingStays }
+{}
+
+/// A block is released once.
+pub fn released_stays()
+    ensures { ReleasedStays }
+{}
+
+/// A block is released whole.
+pub fn part_stays()
+    ensures { PartStays }
+{}
