@@ -1,5 +1,5 @@
 //! Laws of the memory.
-ghost use Rattle.mem_model.specs.MemoryLaws.{NumberTraps, MissingTraps, ReleasedTraps, OutsideTraps, ConstantTraps, LeakTraps, LargeTraps, OthersStay, MissingStays, ReleasedStays, PartStays};
+ghost use Rattle.mem_model.specs.MemoryLaws.{NumberTraps, MissingTraps, ReleasedTraps, OutsideTraps, ConstantTraps, LeakTraps, LargeTraps, OthersStay, MissingStays, ReleasedStays, PartStays, WordComesBack};
 
 /// A pointer that is a number leads to no block.
 pub fn number_traps()
@@ -54,4 +54,9 @@ pub fn released_stays()
 /// A block is released whole.
 pub fn part_stays()
     ensures { PartStays }
+{}
+
+/// The bytes of a word hold that word.
+pub fn word_comes_back()
+    ensures { WordComesBack }
 {}

@@ -10,6 +10,6 @@ mod memory;
 mod step;
 
 pub use launch::{Arg, Launch, Shown};
-pub use laws::{constant_traps, large_traps, leak_traps, missing_stays, missing_traps, number_traps, others_stay, outside_traps, part_stays, released_stays, released_traps};
+pub use laws::{constant_traps, large_traps, leak_traps, missing_stays, missing_traps, number_traps, others_stay, outside_traps, part_stays, released_stays, released_traps, word_comes_back};
 pub use memory::{BlockName, Byte, Cell, Ptr, Word};
 pub use step::{End, Moved, NotReady, Trap};
