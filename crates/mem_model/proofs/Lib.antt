@@ -1,3 +1,4 @@
 pub mod Orders
 pub mod AccessTests
 pub mod WordLaws
+pub mod StoreLaws

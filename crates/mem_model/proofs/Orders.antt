@@ -25,7 +25,7 @@ both_equal Less s = refl
 both_equal Equal s = refl
 both_equal Greater s = refl
 
-number_same : (x y : ℕ) → is_eq (nat_cmp x y) ≡ true → x ≡ y
+pub number_same : (x y : ℕ) → is_eq (nat_cmp x y) ≡ true → x ≡ y
 number_same x y e = grind (arith, nat_tests)
 
 -- ---- the block with a code

@@ -1,5 +1,5 @@
 -- Laws of the memory: what each test of an access answers, and that a load gives what was stored.
-use Rattle.std.specs.Prelude.{ℕ, ◌+◌, ◌^◌, ◌<◌, ◌≤◌, ◌≡◌, ℤ, pos, negsuc, Bool, true, false, Option, Some, None, Result, Ok, Err}
+use Rattle.std.specs.Prelude.{ℕ, ◌+◌, ◌^◌, ◌<◌, ◌≤◌, ◌≡◌, ◌⊎◌, ℤ, pos, negsuc, Bool, true, false, Option, Some, None, Result, Ok, Err}
 use Rattle.std.specs.FinMap as fin
 use Rattle.mem_model.specs.declared.memory.BlockName.{BlockName}
 use Rattle.mem_model.specs.declared.memory.BlockName.TheVariants.{Heap}
@@ -97,3 +97,11 @@ StoreThenLoad = (m after : Memory) (p : Ptr) (cell : Cell) (word : Word) → Hol
 -- a store changes no load of another block
 abbrev pub OtherBlockStays : Type 0
 OtherBlockStays = (m after : Memory) (block other : BlockName) (offset place : ℤ) (cell read : Cell) (given : Given) → (other ≡ block → ⊥) → Store m (At block offset) cell given ≡ Ok after → Load after (At other place) read ≡ Load m (At other place) read
+
+-- nor, in the same block, of bytes that it doesn't write
+abbrev pub OtherBytesStay : Type 0
+OtherBytesStay = (m after : Memory) (block : BlockName) (offset place : ℕ) (cell read : Cell) (word : Word) → Holds cell word → (place + cell_size read ≤ offset) ⊎ (offset + cell_size cell ≤ place) → Store m (At block (pos offset)) cell (Shares word) ≡ Ok after → Load after (At block (pos place)) read ≡ Load m (At block (pos place)) read
+
+-- nor a block's size, or whether it is constant or released
+abbrev pub StoreKeepsBlocks : Type 0
+StoreKeepsBlocks = (m after : Memory) (p : Ptr) (cell : Cell) (given : Given) → Store m p cell given ≡ Ok after → after.blocks ≡ m.blocks

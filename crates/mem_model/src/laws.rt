@@ -1,5 +1,5 @@
 //! Laws of the memory.
-ghost use Rattle.mem_model.specs.MemoryLaws.{NumberTraps, MissingTraps, ReleasedTraps, OutsideTraps, ConstantTraps, LeakTraps, LargeTraps, OthersStay, MissingStays, ReleasedStays, PartStays, WordComesBack};
+ghost use Rattle.mem_model.specs.MemoryLaws.{NumberTraps, MissingTraps, ReleasedTraps, OutsideTraps, ConstantTraps, LeakTraps, LargeTraps, OthersStay, MissingStays, ReleasedStays, PartStays, WordComesBack, StoreThenLoad, OtherBlockStays, OtherBytesStay, StoreKeepsBlocks};
 
 /// A pointer that is a number leads to no block.
 pub fn number_traps()
@@ -59,4 +59,24 @@ pub fn part_stays()
 /// The bytes of a word hold that word.
 pub fn word_comes_back()
     ensures { WordComesBack }
+{}
+
+/// A load behind a store of the same cell gives the word that was stored.
+pub fn store_then_load()
+    ensures { StoreThenLoad }
+{}
+
+/// A store changes no load of another block.
+pub fn other_block_stays()
+    ensures { OtherBlockStays }
+{}
+
+/// Nor, in the same block, of bytes that it doesn't write.
+pub fn other_bytes_stay()
+    ensures { OtherBytesStay }
+{}
+
+/// Nor a block's size, or whether it is constant or released.
+pub fn store_keeps_blocks()
+    ensures { StoreKeepsBlocks }
 {}

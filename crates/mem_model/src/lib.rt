@@ -10,6 +10,6 @@ mod memory;
 mod step;
 
 pub use launch::{Arg, Launch, Shown};
-pub use laws::{constant_traps, large_traps, leak_traps, missing_stays, missing_traps, number_traps, others_stay, outside_traps, part_stays, released_stays, released_traps, word_comes_back};
+pub use laws::{constant_traps, large_traps, leak_traps, missing_stays, missing_traps, number_traps, other_block_stays, other_bytes_stay, others_stay, outside_traps, part_stays, released_stays, released_traps, store_keeps_blocks, store_then_load, word_comes_back};
 pub use memory::{BlockName, Byte, Cell, Ptr, Word};
 pub use step::{End, Moved, NotReady, Trap};
