@@ -1,7 +1,7 @@
 -- What each test of an access answers.
 use Rattle.std.proofs.Common.{◌≡◌, ℕ, ◌+◌, ◌≤◌, ◌<◌, ℤ, pos, negsuc, Bool, true, false, ◌&&◌, Option, Some, None, Result, Ok, Err, refl, sym, ap, ◌∙◌, arith, nat_le, replicate}
 use Rattle.std.specs.Prelude.{if◌then◌else◌, ◌==◌}
-use Rattle.std.proofs.lemmas.Bool.{le-leb, leb-true, eqb-true, false_from_ne_true}
+use Rattle.std.proofs.lemmas.Bool.{le-leb, leb-true, eqb-true, eq-eqb, false_from_ne_true}
 use Rattle.std.specs.FinMap as fin
 use Rattle.mem_model.specs.declared.memory.BlockName.{BlockName}
 use Rattle.mem_model.specs.declared.memory.BlockName.TheVariants.{Arg, Global, Heap, Stack, Captures, Code}
@@ -10,9 +10,9 @@ use Rattle.mem_model.specs.declared.memory.Byte.TheVariants.{Num}
 use Rattle.mem_model.specs.declared.memory.Cell.{Cell}
 use Rattle.mem_model.specs.declared.step.Trap.{Trap}
 use Rattle.mem_model.specs.declared.step.Trap.TheVariants.{NoBlock, Released, OutOfBlock, Constant, StackLeak, TooLarge}
-use Rattle.mem_model.specs.Words.{cell_size}
-use Rattle.mem_model.specs.Memory.{Memory, Header, Given, Shares, Leaks, inside, unless, then_unless, access, load_from, store_to, with_block, is_all, release_header, Load, Store, block_limit}
-use Rattle.mem_model.specs.MemoryLaws.{Lies, IsAll, InHeap, NumberTraps, MissingTraps, ReleasedTraps, OutsideTraps, ConstantTraps, LeakTraps, LargeTraps, OthersStay, MissingStays, ReleasedStays, PartStays}
+use Rattle.mem_model.specs.Words.{cell_size, word_bytes}
+use Rattle.mem_model.specs.Memory.{Memory, Header, Given, Shares, Leaks, inside, unless, then_unless, access, load_from, store_to, put_bytes, with_block, is_all, release_header, Load, Store, block_limit}
+use Rattle.mem_model.specs.MemoryLaws.{Lies, IsAll, InHeap, NumberTraps, MissingTraps, ReleasedTraps, OutsideTraps, ConstantTraps, LeakTraps, LoadReads, StoreGoes, AllocateGoes, ReleaseGoes, LargeTraps, OthersStay, MissingStays, ReleasedStays, PartStays}
 
 outside : (size : ℕ) (offset : ℤ) (count : ℕ) → (Lies size offset count → ⊥) → inside size offset count ≡ Err OutOfBlock
 outside size (pos o) count not = ap (λ t. if t then Ok o else Err OutOfBlock) (false_from_ne_true (nat_le (o + count) size) (λ e. not (leb-true (o + count) size e)))
@@ -74,7 +74,19 @@ constant_traps m block offset cell given header e r lies c = goes_on m block off
 pub leak_traps : LeakTraps
 leak_traps m block offset cell header e r lies c = goes_on m block offset cell Leaks header false e r lies c
 
+pub load_reads : LoadReads
+load_reads m block offset cell header e r lies =
+    ap (load_from m block cell) (found m block (pos offset) cell (Some header) e false ∙ in_block header (pos offset) (cell_size cell) false r lies)
+
+pub store_goes : StoreGoes
+store_goes m block offset cell word header e r lies c =
+    (record m { bytes = put_bytes m.bytes block (begin offset) (word_bytes cell word) }, goes_on m block offset cell (Shares word) header false e r lies c)
+
 -- ---- blocks come and go
+
+pub allocate_goes : AllocateGoes
+allocate_goes m block size constant below =
+    (with_block m block constant (replicate size (Num 0)), ap (λ t. if t then Ok (with_block m block constant (replicate size (Num 0))) else Err TooLarge) (le-leb size block_limit below))
 
 absurd_above : (a b : ℕ) → b < a → a ≤ b → ⊥
 absurd_above a b over under = omega arith
@@ -94,7 +106,7 @@ others_stay m (At (Code n) offset) count not = refl
 pub missing_stays : MissingStays
 missing_stays m n offset count e = ap (release_header m (Heap n) offset count) e
 
-abbrev gone : Memory → BlockName → Header → Memory
+abbrev pub gone : Memory → BlockName → Header → Memory
 gone m block header = record m { blocks = fin.insert m.blocks block (record header { released = true }) }
 
 released_next : (m : Memory) (block : BlockName) (offset : ℤ) (count : ℕ) (header : Header) → header.released ≡ true → release_header m block offset count (Some header) ≡ Err Released
@@ -114,3 +126,14 @@ part_next m block offset count header r e =
 pub part_stays : PartStays
 part_stays m n offset count header e r not =
     ap (release_header m (Heap n) offset count) e ∙ part_next m (Heap n) offset count header r (false_from_ne_true (is_all header.size offset count) (λ a. not (all_is header.size offset count a)))
+
+whole_next : (m : Memory) (block : BlockName) (offset : ℤ) (count : ℕ) (header : Header) → header.released ≡ false → is_all header.size offset count ≡ true → release_header m block offset count (Some header) ≡ Ok (gone m block header)
+whole_next m block offset count header r e =
+    ap (λ t. if t then Err Released else if is_all header.size offset count then Ok (gone m block header) else Err OutOfBlock) r ∙ ap (λ t. if t then Ok (gone m block header) else Err OutOfBlock) e
+
+all_so : (size : ℕ) (offset : ℤ) (count : ℕ) → IsAll size offset count → is_all size offset count ≡ true
+all_so size offset count all = ap (λ o. is_all size o count) all.0 ∙ eq-eqb count size all.1
+
+pub release_goes : ReleaseGoes
+release_goes m n offset count header e r all =
+    (gone m (Heap n) header, ap (release_header m (Heap n) offset count) e ∙ whole_next m (Heap n) offset count header r (all_so header.size offset count all))

@@ -2,3 +2,4 @@ pub mod Orders
 pub mod AccessTests
 pub mod WordLaws
 pub mod StoreLaws
+pub mod BlockLaws

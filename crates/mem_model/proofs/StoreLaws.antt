@@ -90,7 +90,7 @@ pub record Stored (m after : Memory) (block : BlockName) (cell : Cell) (given : 
   pub begins_at : r ≡ Ok offset
   pub leaves : stored_at m block offset (word_bytes cell (given_word given)) ≡ after
 
-ok_same : (m n : Memory) → ◌≡◌ {A = Result Memory Trap} (Ok m) (Ok n) → m ≡ n
+pub ok_same : (m n : Memory) → ◌≡◌ {A = Result Memory Trap} (Ok m) (Ok n) → m ≡ n
 ok_same m n e = cc
 
 pub stored : (m after : Memory) (block : BlockName) (cell : Cell) (given : Given) (r : Result ℕ Trap) → store_to m block cell given r ≡ Ok after → Stored m after block cell given r
@@ -111,7 +111,7 @@ store_then_load m after (At block offset) cell word holds e = subst (λ a. Load 
     loads : Load (stored_at m block st.offset (word_bytes cell word)) (At block offset) cell ≡ Ok word
     loads = ap (load_from (stored_at m block st.offset (word_bytes cell word)) block cell) (access_reads (fin.get m.blocks block) offset (cell_size cell) st.offset st.begins_at) ∙ ap (word_in cell) held ∙ word_back cell word holds
 
-load_same : (m n : Memory) (b : BlockName) (cell : Cell) (r : Result ℕ Trap) → ((o : ℕ) → r ≡ Ok o → bytes_at n b o (cell_size cell) ≡ bytes_at m b o (cell_size cell)) → load_from n b cell r ≡ load_from m b cell r
+pub load_same : (m n : Memory) (b : BlockName) (cell : Cell) (r : Result ℕ Trap) → ((o : ℕ) → r ≡ Ok o → bytes_at n b o (cell_size cell) ≡ bytes_at m b o (cell_size cell)) → load_from n b cell r ≡ load_from m b cell r
 load_same m n b cell (Err trap) same = refl
 load_same m n b cell (Ok o) same = ap (word_in cell) (same o refl)
 

@@ -1,10 +1,11 @@
 -- Laws of the memory: what each test of an access answers, and that a load gives what was stored.
-use Rattle.std.specs.Prelude.{ℕ, ◌+◌, ◌^◌, ◌<◌, ◌≤◌, ◌≡◌, ◌⊎◌, ℤ, pos, negsuc, Bool, true, false, Option, Some, None, Result, Ok, Err}
+use Rattle.std.specs.Prelude.{ℕ, ◌+◌, ◌^◌, ◌<◌, ◌≤◌, ◌≡◌, ◌⊎◌, ℤ, pos, negsuc, Bool, true, false, replicate, Option, Some, None, Result, Ok, Err}
 use Rattle.std.specs.FinMap as fin
 use Rattle.mem_model.specs.declared.memory.BlockName.{BlockName}
 use Rattle.mem_model.specs.declared.memory.BlockName.TheVariants.{Heap}
 use Rattle.mem_model.specs.declared.memory.Ptr.{Ptr}
 use Rattle.mem_model.specs.declared.memory.Ptr.TheVariants.{Num as Number, At}
+use Rattle.mem_model.specs.declared.memory.Byte.TheVariants.{Num}
 use Rattle.mem_model.specs.declared.memory.Word.{Word}
 use Rattle.mem_model.specs.declared.memory.Word.TheVariants.{Int, Ptr as Address}
 use Rattle.mem_model.specs.declared.memory.Cell.{Cell}
@@ -12,7 +13,7 @@ use Rattle.mem_model.specs.declared.memory.Cell.TheVariants.{Int as IntCell, Ptr
 use Rattle.mem_model.specs.declared.step.Trap.{Trap}
 use Rattle.mem_model.specs.declared.step.Trap.TheVariants.{NoBlock, Released, OutOfBlock, Constant, StackLeak, TooLarge}
 use Rattle.mem_model.specs.Words.{cell_size, word_bytes, word_in}
-use Rattle.mem_model.specs.Memory.{Memory, Header, Given, Shares, Leaks, Load, Store, Allocate, Release, block_limit}
+use Rattle.mem_model.specs.Memory.{Memory, Header, Given, Shares, Leaks, bytes_at, Load, Store, Allocate, Release, block_limit}
 
 -- ---- the tests of an access, in their order
 
@@ -45,6 +46,14 @@ ConstantTraps = (m : Memory) (block : BlockName) (offset : ℤ) (cell : Cell) (g
 abbrev pub LeakTraps : Type 0
 LeakTraps = (m : Memory) (block : BlockName) (offset : ℤ) (cell : Cell) (header : Header) → fin.get m.blocks block ≡ Some header → header.released ≡ false → Lies header.size offset (cell_size cell) → header.constant ≡ false → Store m (At block offset) cell Leaks ≡ Err StackLeak
 
+-- where all tests pass, a load reads the block's bytes, also of a constant
+abbrev pub LoadReads : Type 0
+LoadReads = (m : Memory) (block : BlockName) (offset : ℕ) (cell : Cell) (header : Header) → fin.get m.blocks block ≡ Some header → header.released ≡ false → Lies header.size (pos offset) (cell_size cell) → Load m (At block (pos offset)) cell ≡ word_in cell (bytes_at m block offset (cell_size cell))
+
+-- and a store goes through
+abbrev pub StoreGoes : Type 0
+StoreGoes = (m : Memory) (block : BlockName) (offset : ℤ) (cell : Cell) (word : Word) (header : Header) → fin.get m.blocks block ≡ Some header → header.released ≡ false → Lies header.size offset (cell_size cell) → header.constant ≡ false → (after : Memory) × (Store m (At block offset) cell (Shares word) ≡ Ok after)
+
 -- ---- blocks come and go
 
 -- no block is above the limit
@@ -74,6 +83,34 @@ ReleasedStays = (m : Memory) (n : ℕ) (offset : ℤ) (count : ℕ) (header : He
 -- and whole
 abbrev pub PartStays : Type 0
 PartStays = (m : Memory) (n : ℕ) (offset : ℤ) (count : ℕ) (header : Header) → fin.get m.blocks (Heap n) ≡ Some header → header.released ≡ false → (IsAll header.size offset count → ⊥) → Release m (At (Heap n) offset) count ≡ Err OutOfBlock
+
+-- a block up to the limit is made
+abbrev pub AllocateGoes : Type 0
+AllocateGoes = (m : Memory) (block : BlockName) (size : ℕ) (constant : Bool) → size ≤ block_limit → (after : Memory) × (Allocate m block size constant ≡ Ok after)
+
+-- a new block has its size, and is not released
+abbrev pub NewBlock : Type 0
+NewBlock = (m after : Memory) (block : BlockName) (size : ℕ) (constant : Bool) → Allocate m block size constant ≡ Ok after → fin.get after.blocks block ≡ Some (record { size = size; constant = constant; released = false })
+
+-- all its bytes are zero
+abbrev pub NewBytes : Type 0
+NewBytes = (m after : Memory) (block : BlockName) (size : ℕ) (constant : Bool) → Allocate m block size constant ≡ Ok after → bytes_at after block 0 size ≡ replicate size (Num 0)
+
+-- a new block changes no load of another
+abbrev pub NewBlockApart : Type 0
+NewBlockApart = (m after : Memory) (block other : BlockName) (size : ℕ) (constant : Bool) (place : ℤ) (read : Cell) → (other ≡ block → ⊥) → Allocate m block size constant ≡ Ok after → Load after (At other place) read ≡ Load m (At other place) read
+
+-- a heap block that is there is released, once and whole
+abbrev pub ReleaseGoes : Type 0
+ReleaseGoes = (m : Memory) (n : ℕ) (offset : ℤ) (count : ℕ) (header : Header) → fin.get m.blocks (Heap n) ≡ Some header → header.released ≡ false → IsAll header.size offset count → (after : Memory) × (Release m (At (Heap n) offset) count ≡ Ok after)
+
+-- then every load and store there traps
+abbrev pub ReleaseThenTraps : Type 0
+ReleaseThenTraps = (m after : Memory) (n : ℕ) (offset place : ℤ) (count : ℕ) (cell : Cell) (given : Given) → Release m (At (Heap n) offset) count ≡ Ok after → (Load after (At (Heap n) place) cell ≡ Err Released) × (Store after (At (Heap n) place) cell given ≡ Err Released)
+
+-- and a load of another block gives what it gave
+abbrev pub ReleaseApart : Type 0
+ReleaseApart = (m after : Memory) (n : ℕ) (offset place : ℤ) (count : ℕ) (other : BlockName) (read : Cell) → (other ≡ Heap n → ⊥) → Release m (At (Heap n) offset) count ≡ Ok after → Load after (At other place) read ≡ Load m (At other place) read
 
 -- ---- words
 

@@ -1,5 +1,5 @@
 //! Laws of the memory.
-ghost use Rattle.mem_model.specs.MemoryLaws.{NumberTraps, MissingTraps, ReleasedTraps, OutsideTraps, ConstantTraps, LeakTraps, LargeTraps, OthersStay, MissingStays, ReleasedStays, PartStays, WordComesBack, StoreThenLoad, OtherBlockStays, OtherBytesStay, StoreKeepsBlocks};
+ghost use Rattle.mem_model.specs.MemoryLaws.{NumberTraps, MissingTraps, ReleasedTraps, OutsideTraps, ConstantTraps, LeakTraps, LargeTraps, OthersStay, MissingStays, ReleasedStays, PartStays, WordComesBack, StoreThenLoad, OtherBlockStays, OtherBytesStay, StoreKeepsBlocks, LoadReads, StoreGoes, AllocateGoes, NewBlock, NewBytes, NewBlockApart, ReleaseGoes, ReleaseThenTraps, ReleaseApart};
 
 /// A pointer that is a number leads to no block.
 pub fn number_traps()
@@ -79,4 +79,49 @@ pub fn other_bytes_stay()
 /// Nor a block's size, or whether it is constant or released.
 pub fn store_keeps_blocks()
     ensures { StoreKeepsBlocks }
+{}
+
+/// Where all tests pass, a load reads the block's bytes, also of a constant.
+pub fn load_reads()
+    ensures { LoadReads }
+{}
+
+/// And a store goes through.
+pub fn store_goes()
+    ensures { StoreGoes }
+{}
+
+/// A block up to the limit is made.
+pub fn allocate_goes()
+    ensures { AllocateGoes }
+{}
+
+/// A new block has its size, and is not released.
+pub fn new_block()
+    ensures { NewBlock }
+{}
+
+/// All bytes of a new block are zero.
+pub fn new_bytes()
+    ensures { NewBytes }
+{}
+
+/// A new block changes no load of another.
+pub fn new_block_apart()
+    ensures { NewBlockApart }
+{}
+
+/// A heap block that is there is released, once and whole.
+pub fn release_goes()
+    ensures { ReleaseGoes }
+{}
+
+/// Every load and store of a released block traps.
+pub fn release_then_traps()
+    ensures { ReleaseThenTraps }
+{}
+
+/// A load of another block than the released one gives what it gave.
+pub fn release_apart()
+    ensures { ReleaseApart }
 {}
