@@ -1,6 +1,6 @@
 -- What each test of an access answers.
-use Rattle.std.proofs.Common.{◌≡◌, ℕ, ◌+◌, ◌≤◌, ◌<◌, ℤ, pos, negsuc, Bool, true, false, ◌&&◌, Option, Some, None, Result, Ok, Err, refl, sym, ap, ◌∙◌, arith, nat_le, replicate}
-use Rattle.std.specs.Prelude.{if◌then◌else◌, ◌==◌}
+use Rattle.std.proofs.Common.{◌≡◌, ℕ, ◌+◌, ◌≤◌, ◌<◌, ℤ, pos, negsuc, Bool, true, false, ◌&&◌, Option, Some, None, Result, Ok, Err, refl, ap, ◌∙◌, arith, nat_le, replicate}
+use Rattle.std.specs.Prelude.{if◌then◌else◌}
 use Rattle.std.proofs.lemmas.Bool.{le-leb, leb-true, eqb-true, eq-eqb, false_from_ne_true}
 use Rattle.std.specs.FinMap as fin
 use Rattle.mem_model.specs.declared.memory.BlockName.{BlockName}
@@ -9,10 +9,10 @@ use Rattle.mem_model.specs.declared.memory.Ptr.TheVariants.{Num as Number, At}
 use Rattle.mem_model.specs.declared.memory.Byte.TheVariants.{Num}
 use Rattle.mem_model.specs.declared.memory.Cell.{Cell}
 use Rattle.mem_model.specs.declared.step.Trap.{Trap}
-use Rattle.mem_model.specs.declared.step.Trap.TheVariants.{NoBlock, Released, OutOfBlock, Constant, StackLeak, TooLarge}
+use Rattle.mem_model.specs.declared.step.Trap.TheVariants.{NoBlock, Released, OutOfBlock, Constant, TooLarge}
 use Rattle.mem_model.specs.Words.{cell_size, word_bytes}
 use Rattle.mem_model.specs.Memory.{Memory, Header, Given, Shares, Leaks, inside, unless, then_unless, access, load_from, store_to, put_bytes, with_block, is_all, release_header, Load, Store, block_limit}
-use Rattle.mem_model.specs.MemoryLaws.{Lies, IsAll, InHeap, NumberTraps, MissingTraps, ReleasedTraps, OutsideTraps, ConstantTraps, LeakTraps, LoadReads, StoreGoes, AllocateGoes, ReleaseGoes, LargeTraps, OthersStay, MissingStays, ReleasedStays, PartStays}
+use Rattle.mem_model.specs.MemoryLaws.{Lies, IsAll, NumberTraps, MissingTraps, ReleasedTraps, OutsideTraps, ConstantTraps, LeakTraps, LoadReads, StoreGoes, AllocateGoes, ReleaseGoes, LargeTraps, OthersStay, MissingStays, ReleasedStays, PartStays}
 
 outside : (size : ℕ) (offset : ℤ) (count : ℕ) → (Lies size offset count → ⊥) → inside size offset count ≡ Err OutOfBlock
 outside size (pos o) count not = ap (λ t. if t then Ok o else Err OutOfBlock) (false_from_ne_true (nat_le (o + count) size) (λ e. not (leb-true (o + count) size e)))
@@ -94,6 +94,7 @@ absurd_above a b over under = omega arith
 pub large_traps : LargeTraps
 large_traps m block size constant above =
     ap (λ t. if t then Ok (with_block m block constant (replicate size (Num 0))) else Err TooLarge) (false_from_ne_true (nat_le size block_limit) (λ e. absurd_above size block_limit above (leb-true size block_limit e)))
+
 pub others_stay : OthersStay
 others_stay m (Number n) count not = refl
 others_stay m (At (Heap n) offset) count not = absurd (not tt)

@@ -1,5 +1,5 @@
 -- What a new block and a released one show.
-use Rattle.std.proofs.Common.{◌≡◌, ℕ, ◌+◌, ℤ, List, length, replicate, Bool, true, false, cond, Option, Some, None, Result, Ok, Err, refl, sym, ap, ◌∙◌, subst}
+use Rattle.std.proofs.Common.{◌≡◌, ℕ, ℤ, List, length, replicate, Bool, true, false, cond, Option, Some, None, Result, Ok, Err, refl, ap, ◌∙◌, subst}
 use Rattle.std.specs.Prelude.{if◌then◌else◌}
 use Rattle.std.specs.FinMap as fin
 use Rattle.std.specs.FinMap.{FinMap, get-insert}
@@ -17,7 +17,7 @@ use Rattle.mem_model.specs.declared.step.Trap.{Trap}
 use Rattle.mem_model.specs.declared.step.Trap.TheVariants.{Released, OutOfBlock, TooLarge}
 use Rattle.mem_model.specs.Blocks.{block_cmp}
 use Rattle.mem_model.specs.Words.{cell_size}
-use Rattle.mem_model.specs.Memory.{Memory, Header, access, bytes_at, put_bytes, load_from, with_block, is_all, release_header, Load}
+use Rattle.mem_model.specs.Memory.{Memory, Header, access, bytes_at, load_from, with_block, is_all, release_header, Load}
 use Rattle.mem_model.specs.MemoryLaws.{NewBlock, NewBytes, NewBlockApart, ReleaseThenTraps, ReleaseApart}
 use Rattle.mem_model.proofs.Orders.{block_total, block_same}
 use Rattle.mem_model.proofs.AccessTests.{gone, released_traps}

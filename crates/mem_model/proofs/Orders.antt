@@ -1,5 +1,5 @@
 -- The orders of blocks and places are total, and tell all of them apart.
-use Rattle.std.proofs.Common.{◌≡◌, ℕ, zero, suc, ◌<◌, Bool, true, false, ◌&&◌, refl, sym, ap, ◌∙◌, arith}
+use Rattle.std.proofs.Common.{◌≡◌, ℕ, zero, suc, true, ◌&&◌, refl, sym, ap, ◌∙◌, arith}
 use Rattle.std.specs.Cmp.{IsTotalOrder}
 use Rattle.std.specs.declared.cmp.Ordering.{Ordering}
 use Rattle.std.specs.declared.cmp.Ordering.TheVariants.{Less, Equal, Greater}
@@ -52,8 +52,10 @@ code_same x y e = codes (number_same x.0 y.0 parts.0) (number_same x.1.0 y.1.0 m
   where
     parts : (is_eq (nat_cmp x.0 y.0) ≡ true) × (is_eq (ordering_then (nat_cmp x.1.0 y.1.0) (nat_cmp x.1.1 y.1.1)) ≡ true)
     parts = and_parts _ _ (sym (both_equal (nat_cmp x.0 y.0) _) ∙ e)
+
     more : (is_eq (nat_cmp x.1.0 y.1.0) ≡ true) × (is_eq (nat_cmp x.1.1 y.1.1) ≡ true)
     more = and_parts _ _ (sym (both_equal (nat_cmp x.1.0 y.1.0) _) ∙ parts.1)
+
     codes : x.0 ≡ y.0 → x.1.0 ≡ y.1.0 → x.1.1 ≡ y.1.1 → x ≡ y
     codes p q r = λ i. (p i, (q i, r i))
 

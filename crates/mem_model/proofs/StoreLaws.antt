@@ -1,5 +1,5 @@
 -- A load behind a store.
-use Rattle.std.proofs.Common.{◌≡◌, ℕ, zero, suc, ◌+◌, ◌<◌, ◌≤◌, List, [], ◌∷◌, length, ℤ, pos, negsuc, Bool, true, false, cond, ◌&&◌, Option, Some, None, Result, Ok, Err, refl, sym, ap, ◌∙◌, subst, arith, ◌⊎◌, inl, inr}
+use Rattle.std.proofs.Common.{◌≡◌, ℕ, zero, suc, ◌+◌, ◌<◌, ◌≤◌, List, [], ◌∷◌, length, ℤ, pos, Bool, true, false, cond, ◌&&◌, Option, Some, None, Result, Ok, Err, refl, sym, ap, ◌∙◌, subst, arith, ◌⊎◌, inl, inr}
 use Rattle.std.specs.Prelude.{if◌then◌else◌}
 use Rattle.std.specs.FinMap as fin
 use Rattle.std.specs.FinMap.{FinMap, get-insert}
@@ -7,18 +7,17 @@ use Rattle.std.specs.Ordering.{eq_by_cmp, nat_cmp, is_eq}
 use Rattle.std.proofs.lemmas.Bool.{and_parts, false_from_ne_true}
 use Rattle.std.proofs.lemmas.Cmp.{eq_by_cmp_equiv}
 use Rattle.mem_model.specs.declared.memory.BlockName.{BlockName}
-use Rattle.mem_model.specs.declared.memory.Ptr.{Ptr}
 use Rattle.mem_model.specs.declared.memory.Ptr.TheVariants.{Num as Number, At}
 use Rattle.mem_model.specs.declared.memory.Byte.{Byte}
 use Rattle.mem_model.specs.declared.memory.Word.{Word}
-use Rattle.mem_model.specs.declared.memory.Word.TheVariants.{Int, Ptr as Address}
+use Rattle.mem_model.specs.declared.memory.Word.TheVariants.{Int}
 use Rattle.mem_model.specs.declared.memory.Cell.{Cell}
 use Rattle.mem_model.specs.declared.step.Trap.{Trap}
 use Rattle.mem_model.specs.declared.step.Trap.TheVariants.{Released, OutOfBlock, Constant}
 use Rattle.mem_model.specs.Blocks.{block_cmp, place_cmp, same_block}
 use Rattle.mem_model.specs.Words.{cell_size, word_bytes, word_in}
-use Rattle.mem_model.specs.Memory.{Memory, Header, Given, Shares, Leaks, inside, unless, then_unless, access, byte_or_zero, bytes_at, put_bytes, load_from, store_to, Load, Store}
-use Rattle.mem_model.specs.MemoryLaws.{Holds, StoreThenLoad, OtherBlockStays, OtherBytesStay, StoreKeepsBlocks}
+use Rattle.mem_model.specs.Memory.{Memory, Header, Given, Shares, Leaks, inside, unless, then_unless, access, byte_or_zero, bytes_at, put_bytes, load_from, store_to, Load}
+use Rattle.mem_model.specs.MemoryLaws.{StoreThenLoad, OtherBlockStays, OtherBytesStay, StoreKeepsBlocks}
 use Rattle.mem_model.proofs.Orders.{place_total, both_equal, number_same, block_same}
 use Rattle.mem_model.proofs.WordLaws.{word_back, word_length}
 
@@ -106,8 +105,10 @@ store_then_load m after (At block offset) cell word holds e = subst (λ a. Load 
   where
     st : Stored m after block cell (Shares word) (access (fin.get m.blocks block) offset (cell_size cell) true)
     st = stored m after block cell (Shares word) _ e
+
     held : bytes_at (stored_at m block st.offset (word_bytes cell word)) block st.offset (cell_size cell) ≡ word_bytes cell word
     held = subst (λ k. bytes_at (stored_at m block st.offset (word_bytes cell word)) block st.offset k ≡ word_bytes cell word) (word_length cell word holds) (put_back m m.bytes block st.offset (word_bytes cell word))
+
     loads : Load (stored_at m block st.offset (word_bytes cell word)) (At block offset) cell ≡ Ok word
     loads = ap (load_from (stored_at m block st.offset (word_bytes cell word)) block cell) (access_reads (fin.get m.blocks block) offset (cell_size cell) st.offset st.begins_at) ∙ ap (word_in cell) held ∙ word_back cell word holds
 
@@ -131,6 +132,7 @@ other_bytes_stay m after block offset place cell read word holds apart e = subst
   where
     st : Stored m after block cell (Shares word) (access (fin.get m.blocks block) (pos offset) (cell_size cell) true)
     st = stored m after block cell (Shares word) _ e
+
     meets : (o j : ℕ) → o ≡ place → o ≤ j → j < o + cell_size read → st.offset ≤ j → j < st.offset + length (word_bytes cell word) → ⊥
     meets o j is low high from till = far (word_length cell word holds) (access_begins _ offset (cell_size cell) true st.offset st.begins_at) apart
       where

@@ -1,24 +1,21 @@
 -- The bytes of a word hold that word.
-use Rattle.std.proofs.Common.{◌≡◌, ℕ, zero, suc, ◌+◌, ◌*◌, ◌/◌, ◌%◌, ◌^◌, ◌≤◌, ◌<◌, List, [], ◌∷◌, length, Bool, true, false, ◌&&◌, Option, Some, None, Result, Ok, Err, refl, sym, ap, ◌∙◌, subst, arith, ℤ}
+use Rattle.std.proofs.Common.{◌≡◌, ℕ, zero, suc, ◌+◌, ◌*◌, ◌/◌, ◌%◌, ◌^◌, ◌<◌, length, true, ◌&&◌, Some, Ok, Err, refl, sym, ap, ◌∙◌, subst, arith, ℤ}
 use Rattle.std.specs.Prelude.{if◌then◌else◌, ◌==◌, option_map}
-use Rattle.std.specs.Ordering.{is_eq, nat_cmp, int_eq, eq_by_cmp}
-use Rattle.std.proofs.Math.Nat.{pow-suc, div-lt_iff_lt-mul, mod-add-div, mod-eq_of_lt, pow-le-pow_right, le_trans, lt_of_lt_of_le}
+use Rattle.std.specs.Ordering.{int_eq}
+use Rattle.std.proofs.Math.Nat.{pow-suc, div-lt_iff_lt-mul, mod-add-div, mod-eq_of_lt, pow-le-pow_right, lt_of_lt_of_le}
 use Rattle.std.proofs.lemmas.Nat.{pow-add}
 use Rattle.std.proofs.lemmas.Bool.{eq-eqb}
 use Rattle.std.proofs.lemmas.Cmp.{int_eq_equiv, eq_by_cmp_equiv}
 use Rattle.mem_model.specs.declared.memory.BlockName.{BlockName}
 use Rattle.mem_model.specs.declared.memory.Ptr.{Ptr}
 use Rattle.mem_model.specs.declared.memory.Ptr.TheVariants.{Num as Number, At}
-use Rattle.mem_model.specs.declared.memory.Byte.{Byte}
-use Rattle.mem_model.specs.declared.memory.Byte.TheVariants.{Num, Part}
 use Rattle.mem_model.specs.declared.memory.Word.{Word}
 use Rattle.mem_model.specs.declared.memory.Word.TheVariants.{Int, Ptr as Address}
 use Rattle.mem_model.specs.declared.memory.Cell.{Cell}
 use Rattle.mem_model.specs.declared.memory.Cell.TheVariants.{Int as IntCell, Ptr as PtrCell}
-use Rattle.mem_model.specs.declared.step.Trap.{Trap}
 use Rattle.mem_model.specs.declared.step.Trap.TheVariants.{NotNumber}
-use Rattle.mem_model.specs.Blocks.{block_cmp, same_block, same_ptr}
-use Rattle.mem_model.specs.Words.{cell_size, number_bytes, parts_from, pointer_bytes, word_bytes, number_in, are_parts, first_part, integer_word, address_word, pointer_word, word_in}
+use Rattle.mem_model.specs.Blocks.{same_ptr}
+use Rattle.mem_model.specs.Words.{cell_size, number_bytes, parts_from, pointer_bytes, word_bytes, number_in, are_parts, integer_word, pointer_word, word_in}
 use Rattle.mem_model.specs.MemoryLaws.{Holds, WordComesBack}
 use Rattle.mem_model.proofs.Orders.{block_total}
 

@@ -1,5 +1,5 @@
 -- Laws of the memory: what each test of an access answers, and that a load gives what was stored.
-use Rattle.std.specs.Prelude.{ℕ, ◌+◌, ◌^◌, ◌<◌, ◌≤◌, ◌≡◌, ◌⊎◌, ℤ, pos, negsuc, Bool, true, false, replicate, Option, Some, None, Result, Ok, Err}
+use Rattle.std.specs.Prelude.{ℕ, ◌+◌, ◌^◌, ◌<◌, ◌≤◌, ◌≡◌, ◌⊎◌, ℤ, pos, negsuc, Bool, true, false, replicate, Some, None, Ok, Err}
 use Rattle.std.specs.FinMap as fin
 use Rattle.mem_model.specs.declared.memory.BlockName.{BlockName}
 use Rattle.mem_model.specs.declared.memory.BlockName.TheVariants.{Heap}
@@ -10,7 +10,6 @@ use Rattle.mem_model.specs.declared.memory.Word.{Word}
 use Rattle.mem_model.specs.declared.memory.Word.TheVariants.{Int, Ptr as Address}
 use Rattle.mem_model.specs.declared.memory.Cell.{Cell}
 use Rattle.mem_model.specs.declared.memory.Cell.TheVariants.{Int as IntCell, Ptr as PtrCell}
-use Rattle.mem_model.specs.declared.step.Trap.{Trap}
 use Rattle.mem_model.specs.declared.step.Trap.TheVariants.{NoBlock, Released, OutOfBlock, Constant, StackLeak, TooLarge}
 use Rattle.mem_model.specs.Words.{cell_size, word_bytes, word_in}
 use Rattle.mem_model.specs.Memory.{Memory, Header, Given, Shares, Leaks, bytes_at, Load, Store, Allocate, Release, block_limit}
