@@ -3,3 +3,4 @@ pub mod AccessTests
 pub mod WordLaws
 pub mod StoreLaws
 pub mod BlockLaws
+pub mod PointerLaws

@@ -61,7 +61,7 @@ reads false (Err trap) constant o e = absurd (let f : ⊥ = cc in f)
 reads false (Ok x) true o e = absurd (let f : ⊥ = cc in f)
 reads false (Ok x) false o e = e
 
-access_reads : (h : Option Header) (offset : ℤ) (count o : ℕ) → access h offset count true ≡ Ok o → access h offset count false ≡ Ok o
+pub access_reads : (h : Option Header) (offset : ℤ) (count o : ℕ) → access h offset count true ≡ Ok o → access h offset count false ≡ Ok o
 access_reads None offset count o e = absurd (let f : ⊥ = cc in f)
 access_reads (Some header) offset count o e = reads header.released (inside header.size offset count) header.constant o e
 

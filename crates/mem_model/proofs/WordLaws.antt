@@ -43,7 +43,7 @@ integer_back width n below = ap (integer_word width) (number_back ((width + 7) /
 
 -- ---- addresses
 
-same_self : (block : BlockName) (offset : ℤ) → same_ptr (At block offset) (At block offset) ≡ true
+pub same_self : (block : BlockName) (offset : ℤ) → same_ptr (At block offset) (At block offset) ≡ true
 same_self block offset = ap (λ t. t && int_eq offset offset) ((eq_by_cmp_equiv block_total).refl block) ∙ int_eq_equiv.refl offset
 
 parts_are : (p : Ptr) → same_ptr p p ≡ true → (count k : ℕ) → are_parts p k (parts_from count k p) ≡ true

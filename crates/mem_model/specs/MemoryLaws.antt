@@ -10,7 +10,9 @@ use Rattle.mem_model.specs.declared.memory.Word.{Word}
 use Rattle.mem_model.specs.declared.memory.Word.TheVariants.{Int, Ptr as Address}
 use Rattle.mem_model.specs.declared.memory.Cell.{Cell}
 use Rattle.mem_model.specs.declared.memory.Cell.TheVariants.{Int as IntCell, Ptr as PtrCell}
-use Rattle.mem_model.specs.declared.step.Trap.TheVariants.{NoBlock, Released, OutOfBlock, Constant, StackLeak, TooLarge}
+use Rattle.mem_model.specs.declared.step.Trap.TheVariants.{NoBlock, Released, OutOfBlock, Constant, StackLeak, TooLarge, NotNumber}
+use Rattle.std.specs.Bool.{Decides}
+use Rattle.mem_model.specs.Blocks.{same_block, same_ptr}
 use Rattle.mem_model.specs.Words.{cell_size, word_bytes, word_in}
 use Rattle.mem_model.specs.Memory.{Memory, Header, Given, Shares, Leaks, bytes_at, Load, Store, Allocate, Release, block_limit}
 
@@ -141,3 +143,21 @@ OtherBytesStay = (m after : Memory) (block : BlockName) (offset place : ℕ) (ce
 -- nor a block's size, or whether it is constant or released
 abbrev pub StoreKeepsBlocks : Type 0
 StoreKeepsBlocks = (m after : Memory) (p : Ptr) (cell : Cell) (given : Given) → Store m p cell given ≡ Ok after → after.blocks ≡ m.blocks
+
+-- ---- numbers and addresses
+
+-- the test on block names tells them apart
+abbrev pub SameBlock : Type 0
+SameBlock = (a b : BlockName) → Decides (same_block a b) (a ≡ b)
+
+-- and that on pointers
+abbrev pub SamePointer : Type 0
+SamePointer = (p q : Ptr) → Decides (same_ptr p q) (p ≡ q)
+
+-- an integer that is loaded is below 2 to its width
+abbrev pub LoadFits : Type 0
+LoadFits = (m : Memory) (p : Ptr) (width : ℕ) (word : Word) → Load m p (IntCell width) ≡ Ok word → Holds (IntCell width) word
+
+-- where an address was stored, no integer is loaded
+abbrev pub AddressIsNoNumber : Type 0
+AddressIsNoNumber = (m after : Memory) (p : Ptr) (block : BlockName) (offset : ℤ) (width : ℕ) → 0 < width → width ≤ 64 → Store m p PtrCell (Shares (Address (At block offset))) ≡ Ok after → Load after p (IntCell width) ≡ Err NotNumber

@@ -1,5 +1,5 @@
 //! Laws of the memory.
-ghost use Rattle.mem_model.specs.MemoryLaws.{NumberTraps, MissingTraps, ReleasedTraps, OutsideTraps, ConstantTraps, LeakTraps, LargeTraps, OthersStay, MissingStays, ReleasedStays, PartStays, WordComesBack, StoreThenLoad, OtherBlockStays, OtherBytesStay, StoreKeepsBlocks, LoadReads, StoreGoes, AllocateGoes, NewBlock, NewBytes, NewBlockApart, ReleaseGoes, ReleaseThenTraps, ReleaseApart};
+ghost use Rattle.mem_model.specs.MemoryLaws.{NumberTraps, MissingTraps, ReleasedTraps, OutsideTraps, ConstantTraps, LeakTraps, LargeTraps, OthersStay, MissingStays, ReleasedStays, PartStays, WordComesBack, StoreThenLoad, OtherBlockStays, OtherBytesStay, StoreKeepsBlocks, LoadReads, StoreGoes, AllocateGoes, NewBlock, NewBytes, NewBlockApart, ReleaseGoes, ReleaseThenTraps, ReleaseApart, SameBlock, SamePointer, LoadFits, AddressIsNoNumber};
 
 /// A pointer that is a number leads to no block.
 pub fn number_traps()
@@ -124,4 +124,24 @@ pub fn release_then_traps()
 /// A load of another block than the released one gives what it gave.
 pub fn release_apart()
     ensures { ReleaseApart }
+{}
+
+/// The test on block names tells them apart.
+pub fn tells_blocks()
+    ensures { SameBlock }
+{}
+
+/// The test on pointers tells them apart.
+pub fn tells_pointers()
+    ensures { SamePointer }
+{}
+
+/// An integer that is loaded is below 2 to its width.
+pub fn load_fits()
+    ensures { LoadFits }
+{}
+
+/// Where an address was stored, no integer is loaded.
+pub fn address_is_no_number()
+    ensures { AddressIsNoNumber }
 {}
