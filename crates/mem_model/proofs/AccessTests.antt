@@ -12,7 +12,7 @@ use Rattle.mem_model.specs.declared.step.Trap.{Trap}
 use Rattle.mem_model.specs.declared.step.Trap.TheVariants.{NoBlock, Released, OutOfBlock, Constant, TooLarge}
 use Rattle.mem_model.specs.Words.{cell_size, word_bytes}
 use Rattle.mem_model.specs.Memory.{Memory, Header, Given, Shares, Leaks, inside, unless, then_unless, access, load_from, store_to, put_bytes, with_block, is_all, release_header, Load, Store, block_limit}
-use Rattle.mem_model.specs.MemoryLaws.{Lies, IsAll, NumberTraps, MissingTraps, ReleasedTraps, OutsideTraps, ConstantTraps, LeakTraps, LoadReads, StoreGoes, AllocateGoes, ReleaseGoes, LargeTraps, OthersStay, MissingStays, ReleasedStays, PartStays}
+use Rattle.mem_model.specs.MemoryLaws.{Lies, IsAll, NumberTraps, MissingTraps, ReleasedTraps, OutsideTraps, ConstantTraps, LeakTraps, LoadReads, StoreGoes, AllocateGoes, ReleaseGoes, AllocateLarge, ReleaseHeapOnly, ReleaseMissing, ReleaseTwice, ReleasePart}
 
 outside : (size : ℕ) (offset : ℤ) (count : ℕ) → (Lies size offset count → ⊥) → inside size offset count ≡ Err OutOfBlock
 outside size (pos o) count not = ap (λ t. if t then Ok o else Err OutOfBlock) (false_from_ne_true (nat_le (o + count) size) (λ e. not (leb-true (o + count) size e)))
@@ -91,21 +91,21 @@ allocate_goes m block size constant below =
 absurd_above : (a b : ℕ) → b < a → a ≤ b → ⊥
 absurd_above a b over under = omega arith
 
-pub large_traps : LargeTraps
-large_traps m block size constant above =
+pub allocate_large : AllocateLarge
+allocate_large m block size constant above =
     ap (λ t. if t then Ok (with_block m block constant (replicate size (Num 0))) else Err TooLarge) (false_from_ne_true (nat_le size block_limit) (λ e. absurd_above size block_limit above (leb-true size block_limit e)))
 
-pub others_stay : OthersStay
-others_stay m (Number n) count not = refl
-others_stay m (At (Heap n) offset) count not = absurd (not tt)
-others_stay m (At (Arg n) offset) count not = refl
-others_stay m (At (Global n) offset) count not = refl
-others_stay m (At (Stack t n) offset) count not = refl
-others_stay m (At Captures offset) count not = refl
-others_stay m (At (Code n) offset) count not = refl
+pub release_heap_only : ReleaseHeapOnly
+release_heap_only m (Number n) count not = refl
+release_heap_only m (At (Heap n) offset) count not = absurd (not tt)
+release_heap_only m (At (Arg n) offset) count not = refl
+release_heap_only m (At (Global n) offset) count not = refl
+release_heap_only m (At (Stack t n) offset) count not = refl
+release_heap_only m (At Captures offset) count not = refl
+release_heap_only m (At (Code n) offset) count not = refl
 
-pub missing_stays : MissingStays
-missing_stays m n offset count e = ap (release_header m (Heap n) offset count) e
+pub release_missing : ReleaseMissing
+release_missing m n offset count e = ap (release_header m (Heap n) offset count) e
 
 abbrev pub gone : Memory → BlockName → Header → Memory
 gone m block header = record m { blocks = fin.insert m.blocks block (record header { released = true }) }
@@ -113,8 +113,8 @@ gone m block header = record m { blocks = fin.insert m.blocks block (record head
 released_next : (m : Memory) (block : BlockName) (offset : ℤ) (count : ℕ) (header : Header) → header.released ≡ true → release_header m block offset count (Some header) ≡ Err Released
 released_next m block offset count header r = ap (λ t. if t then Err Released else if is_all header.size offset count then Ok (gone m block header) else Err OutOfBlock) r
 
-pub released_stays : ReleasedStays
-released_stays m n offset count header e r = ap (release_header m (Heap n) offset count) e ∙ released_next m (Heap n) offset count header r
+pub release_twice : ReleaseTwice
+release_twice m n offset count header e r = ap (release_header m (Heap n) offset count) e ∙ released_next m (Heap n) offset count header r
 
 all_is : (size : ℕ) (offset : ℤ) (count : ℕ) → is_all size offset count ≡ true → IsAll size offset count
 all_is size (pos o) count e = grind (arith, eqb-true)
@@ -124,8 +124,8 @@ part_next : (m : Memory) (block : BlockName) (offset : ℤ) (count : ℕ) (heade
 part_next m block offset count header r e =
     ap (λ t. if t then Err Released else if is_all header.size offset count then Ok (gone m block header) else Err OutOfBlock) r ∙ ap (λ t. if t then Ok (gone m block header) else Err OutOfBlock) e
 
-pub part_stays : PartStays
-part_stays m n offset count header e r not =
+pub release_part : ReleasePart
+release_part m n offset count header e r not =
     ap (release_header m (Heap n) offset count) e ∙ part_next m (Heap n) offset count header r (false_from_ne_true (is_all header.size offset count) (λ a. not (all_is header.size offset count a)))
 
 whole_next : (m : Memory) (block : BlockName) (offset : ℤ) (count : ℕ) (header : Header) → header.released ≡ false → is_all header.size offset count ≡ true → release_header m block offset count (Some header) ≡ Ok (gone m block header)

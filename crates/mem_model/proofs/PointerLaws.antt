@@ -1,6 +1,6 @@
 -- Pointers and numbers are told apart.
-use Rattle.std.proofs.Common.{◌≡◌, ℕ, zero, suc, ◌+◌, ◌/◌, ◌%◌, ◌^◌, ◌<◌, ◌≤◌, List, [], ◌∷◌, ℤ, pos, negsuc, Bool, true, false, ◌&&◌, Option, Some, None, Result, Ok, Err, refl, sym, ap, ◌∙◌, subst, arith, nat_le, pow_pos, mod-lt}
-use Rattle.std.specs.Prelude.{if◌then◌else◌, ◌==◌}
+use Rattle.std.proofs.Common.{◌≡◌, ℕ, zero, suc, ◌+◌, ◌/◌, ◌%◌, ◌^◌, ◌<◌, ◌≤◌, List, [], ◌∷◌, ℤ, pos, negsuc, Bool, true, false, ◌&&◌, Option, Some, None, Result, Ok, Err, refl, ap, ◌∙◌, subst, arith, nat_le, pow_pos, mod-lt}
+use Rattle.std.specs.Prelude.{if◌then◌else◌}
 use Rattle.std.specs.FinMap as fin
 use Rattle.std.specs.Ordering.{int_eq}
 use Rattle.std.proofs.lemmas.Bool.{and_parts, eqb-true, eq-eqb, le-leb, leb-true}
@@ -17,7 +17,7 @@ use Rattle.mem_model.specs.declared.memory.Cell.TheVariants.{Int as IntCell, Ptr
 use Rattle.mem_model.specs.declared.step.Trap.{Trap}
 use Rattle.mem_model.specs.declared.step.Trap.TheVariants.{NotNumber, Released, OutOfBlock, Constant}
 use Rattle.mem_model.specs.Blocks.{same_block, same_ptr}
-use Rattle.mem_model.specs.Words.{cell_size, number_in, integer_word, pointer_bytes, word_bytes, word_in}
+use Rattle.mem_model.specs.Words.{cell_size, number_in, integer_word, pointer_bytes}
 use Rattle.mem_model.specs.Memory.{Memory, Header, Shares, inside, unless, then_unless, access, byte_or_zero, bytes_at, load_from, Load}
 use Rattle.mem_model.specs.MemoryLaws.{Holds, SameBlock, SamePointer, LoadFits, AddressIsNoNumber}
 use Rattle.mem_model.proofs.Orders.{block_total, block_same}
@@ -91,6 +91,7 @@ address_is_no_number m after (At b place) block offset width some most e = subst
   where
     st : Stored m after b PtrCell (Shares (Address (At block offset))) (access (fin.get m.blocks b) place 8 true)
     st = stored m after b PtrCell (Shares (Address (At block offset))) _ e
+
     loads : Load (stored_at m b st.offset (pointer_bytes (At block offset))) (At b place) (IntCell width) ≡ Err NotNumber
     loads =
         ap (load_from (stored_at m b st.offset (pointer_bytes (At block offset))) b (IntCell width)) (access_fewer (fin.get m.blocks b) place 8 ((width + 7) / 8) st.offset (omega arith) (access_reads (fin.get m.blocks b) place 8 st.offset st.begins_at))

@@ -58,8 +58,8 @@ StoreGoes = (m : Memory) (block : BlockName) (offset : ℤ) (cell : Cell) (word 
 -- ---- blocks come and go
 
 -- no block is above the limit
-abbrev pub LargeTraps : Type 0
-LargeTraps = (m : Memory) (block : BlockName) (size : ℕ) (constant : Bool) → block_limit < size → Allocate m block size constant ≡ Err TooLarge
+abbrev pub AllocateLarge : Type 0
+AllocateLarge = (m : Memory) (block : BlockName) (size : ℕ) (constant : Bool) → block_limit < size → Allocate m block size constant ≡ Err TooLarge
 
 abbrev pub InHeap : Ptr → Type 0
 InHeap (At (Heap n) offset) = Unit {0}
@@ -70,20 +70,20 @@ abbrev pub IsAll : ℕ → ℤ → ℕ → Type 0
 IsAll size offset count = (offset ≡ pos 0) × (count ≡ size)
 
 -- only a heap block is released
-abbrev pub OthersStay : Type 0
-OthersStay = (m : Memory) (p : Ptr) (count : ℕ) → (InHeap p → ⊥) → Release m p count ≡ Err NoBlock
+abbrev pub ReleaseHeapOnly : Type 0
+ReleaseHeapOnly = (m : Memory) (p : Ptr) (count : ℕ) → (InHeap p → ⊥) → Release m p count ≡ Err NoBlock
 
 -- one that is there
-abbrev pub MissingStays : Type 0
-MissingStays = (m : Memory) (n : ℕ) (offset : ℤ) (count : ℕ) → fin.get m.blocks (Heap n) ≡ None → Release m (At (Heap n) offset) count ≡ Err NoBlock
+abbrev pub ReleaseMissing : Type 0
+ReleaseMissing = (m : Memory) (n : ℕ) (offset : ℤ) (count : ℕ) → fin.get m.blocks (Heap n) ≡ None → Release m (At (Heap n) offset) count ≡ Err NoBlock
 
 -- once
-abbrev pub ReleasedStays : Type 0
-ReleasedStays = (m : Memory) (n : ℕ) (offset : ℤ) (count : ℕ) (header : Header) → fin.get m.blocks (Heap n) ≡ Some header → header.released ≡ true → Release m (At (Heap n) offset) count ≡ Err Released
+abbrev pub ReleaseTwice : Type 0
+ReleaseTwice = (m : Memory) (n : ℕ) (offset : ℤ) (count : ℕ) (header : Header) → fin.get m.blocks (Heap n) ≡ Some header → header.released ≡ true → Release m (At (Heap n) offset) count ≡ Err Released
 
 -- and whole
-abbrev pub PartStays : Type 0
-PartStays = (m : Memory) (n : ℕ) (offset : ℤ) (count : ℕ) (header : Header) → fin.get m.blocks (Heap n) ≡ Some header → header.released ≡ false → (IsAll header.size offset count → ⊥) → Release m (At (Heap n) offset) count ≡ Err OutOfBlock
+abbrev pub ReleasePart : Type 0
+ReleasePart = (m : Memory) (n : ℕ) (offset : ℤ) (count : ℕ) (header : Header) → fin.get m.blocks (Heap n) ≡ Some header → header.released ≡ false → (IsAll header.size offset count → ⊥) → Release m (At (Heap n) offset) count ≡ Err OutOfBlock
 
 -- a block up to the limit is made
 abbrev pub AllocateGoes : Type 0

@@ -1,12 +1,12 @@
 //! Laws of the memory.
-ghost use Rattle.mem_model.specs.MemoryLaws.{NumberTraps, MissingTraps, ReleasedTraps, OutsideTraps, ConstantTraps, LeakTraps, LargeTraps, OthersStay, MissingStays, ReleasedStays, PartStays, WordComesBack, StoreThenLoad, OtherBlockStays, OtherBytesStay, StoreKeepsBlocks, LoadReads, StoreGoes, AllocateGoes, NewBlock, NewBytes, NewBlockApart, ReleaseGoes, ReleaseThenTraps, ReleaseApart, SameBlock, SamePointer, LoadFits, AddressIsNoNumber};
+ghost use Rattle.mem_model.specs.MemoryLaws.{NumberTraps, MissingTraps, ReleasedTraps, OutsideTraps, ConstantTraps, LeakTraps, AllocateLarge, ReleaseHeapOnly, ReleaseMissing, ReleaseTwice, ReleasePart, WordComesBack, StoreThenLoad, OtherBlockStays, OtherBytesStay, StoreKeepsBlocks, LoadReads, StoreGoes, AllocateGoes, NewBlock, NewBytes, NewBlockApart, ReleaseGoes, ReleaseThenTraps, ReleaseApart, SameBlock, SamePointer, LoadFits, AddressIsNoNumber};
 
-/// A pointer that is a number leads to no block.
+/// A load and a store at a pointer that is a number trap.
 pub fn number_traps()
     ensures { NumberTraps }
 {}
 
-/// Nor does a pointer into a block that isn't there.
+/// A load and a store at a block that isn't there trap.
 pub fn missing_traps()
     ensures { MissingTraps }
 {}
@@ -32,28 +32,28 @@ pub fn leak_traps()
 {}
 
 /// No block is above the limit.
-pub fn large_traps()
-    ensures { LargeTraps }
+pub fn allocate_large()
+    ensures { AllocateLarge }
 {}
 
 /// Only a heap block is released.
-pub fn others_stay()
-    ensures { OthersStay }
+pub fn release_heap_only()
+    ensures { ReleaseHeapOnly }
 {}
 
 /// A block is released only if it is there.
-pub fn missing_stays()
-    ensures { MissingStays }
+pub fn release_missing()
+    ensures { ReleaseMissing }
 {}
 
 /// A block is released once.
-pub fn released_stays()
-    ensures { ReleasedStays }
+pub fn release_twice()
+    ensures { ReleaseTwice }
 {}
 
 /// A block is released whole.
-pub fn part_stays()
-    ensures { PartStays }
+pub fn release_part()
+    ensures { ReleasePart }
 {}
 
 /// The bytes of a word hold that word.
@@ -71,12 +71,12 @@ pub fn other_block_stays()
     ensures { OtherBlockStays }
 {}
 
-/// Nor, in the same block, of bytes that it doesn't write.
+/// A store changes no load of other bytes of its block.
 pub fn other_bytes_stay()
     ensures { OtherBytesStay }
 {}
 
-/// Nor a block's size, or whether it is constant or released.
+/// A store changes no block's size, nor whether it is constant or released.
 pub fn store_keeps_blocks()
     ensures { StoreKeepsBlocks }
 {}
@@ -86,7 +86,7 @@ pub fn load_reads()
     ensures { LoadReads }
 {}
 
-/// And a store goes through.
+/// Where all tests pass, a store goes through.
 pub fn store_goes()
     ensures { StoreGoes }
 {}
