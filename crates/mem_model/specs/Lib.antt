@@ -9,3 +9,4 @@ pub mod Do
 pub mod Runs
 pub mod Bound
 pub mod Launching
+pub mod MemoryLaws
