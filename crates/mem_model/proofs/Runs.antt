@@ -1,8 +1,7 @@
 -- Runs and covers.
-use Rattle.std.proofs.Common.{◌≡◌, ℕ, zero, suc, ◌+◌, ◌*◌, ◌≤◌, List, [], ◌∷◌, ◌++◌, length, Option, Some, None, refl, sym, ap, ◌∙◌, subst, arith, length-append}
-use Rattle.std.proofs.Math.Nat.{mul-add}
+use Rattle.std.proofs.Common.{◌≡◌, ℕ, ◌≤◌, List, [], ◌∷◌, ◌++◌, Option, Some, None, refl, ap, arith}
 use Rattle.mem_model.specs.declared.step.End.{End}
-use Rattle.mem_model.specs.Runs.{run, then_run, Safe, Covers}
+use Rattle.mem_model.specs.Runs.{run, then_run, Covers}
 
 some_or : {A : Type 0} (d : A) → Option A → A
 some_or d None = d

@@ -1,5 +1,5 @@
 -- A simulation, once for all machines: where each step of the new machine is met by steps of the old one, so is each run.
-use Rattle.std.proofs.Common.{◌≡◌, ℕ, zero, suc, ◌+◌, ◌*◌, ◌≤◌, List, [], ◌∷◌, ◌++◌, length, Option, Some, None, refl, sym, ap, ◌∙◌, subst, arith, length-append}
+use Rattle.std.proofs.Common.{◌≡◌, ℕ, suc, ◌+◌, ◌*◌, ◌≤◌, List, [], ◌∷◌, ◌++◌, length, Option, Some, None, refl, ap, ◌∙◌, subst, arith, length-append}
 use Rattle.std.proofs.Math.Nat.{mul-add}
 use Rattle.mem_model.specs.Runs.{run, then_run}
 use Rattle.mem_model.proofs.Runs.{some_injective, none_is_not_some, run-append}

@@ -1,5 +1,5 @@
 -- Arithmetic on integers of a width, as whole numbers below two to the width (LLVM Language Reference, "Binary Operations").
-use Rattle.std.specs.Prelude.{ℕ, ◌+◌, ◌-◌, ◌*◌, ◌%◌, ◌^◌, Option, Some, None, Bool, true, false, ◌==◌, if◌then◌else◌}
+use Rattle.std.specs.Prelude.{ℕ, ◌+◌, ◌-◌, ◌*◌, ◌%◌, ◌^◌, Option, Some, None, Bool, true, false, ◌==◌}
 use Rattle.ir_core.specs.declared.instructions.BinOp.{BinOp}
 use Rattle.ir_core.specs.declared.instructions.BinOp.TheVariants.{Add, Sub, Mul}
 use Rattle.ir_core.specs.declared.instructions.Pred.{Pred}

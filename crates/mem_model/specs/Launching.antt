@@ -1,5 +1,5 @@
 -- Launches of kernels: which fit a module, the memory at the start, and what is seen of a run.
-use Rattle.std.specs.Prelude.{◌≡◌, ℕ, zero, ℤ, pos, ◌+◌, ◌^◌, ◌<◌, ◌≤◌, List, [], ◌∷◌, ◌++◌, length, map, Bool, true, false, cond, Option, Some, None, slice_get, if◌then◌else◌}
+use Rattle.std.specs.Prelude.{◌≡◌, ℕ, ℤ, ◌+◌, ◌^◌, ◌<◌, ◌≤◌, List, [], ◌∷◌, ◌++◌, length, map, Bool, true, false, cond, Option, Some, None, slice_get, if◌then◌else◌}
 use Rattle.std.specs.Str.{bytes_eq}
 use Rattle.ir_core.specs.declared.types.Ty.{Ty}
 use Rattle.ir_core.specs.declared.types.Ty.TheVariants.{Int as IntTy, Ptr as PtrTy}
@@ -15,12 +15,11 @@ use Rattle.mem_model.specs.declared.launch.Arg.TheVariants.{Buffer, Int as IntAr
 use Rattle.mem_model.specs.declared.memory.BlockName.{BlockName}
 use Rattle.mem_model.specs.declared.memory.BlockName.TheVariants.{Arg as ArgBlock, Global as GlobalBlock}
 use Rattle.mem_model.specs.declared.memory.Ptr.TheVariants.{Num as Number, At}
-use Rattle.mem_model.specs.declared.memory.Byte.{Byte}
 use Rattle.mem_model.specs.declared.memory.Byte.TheVariants.{Num}
 use Rattle.mem_model.specs.declared.memory.Word.{Word}
 use Rattle.mem_model.specs.declared.memory.Word.TheVariants.{Int, Ptr as Address}
 use Rattle.mem_model.specs.Memory.{Memory, no_blocks, with_block, block_limit, shown_block}
-use Rattle.mem_model.specs.Thread.{Name, Registers, no_registers, Answers, Thread}
+use Rattle.mem_model.specs.Thread.{Registers, no_registers, Answers, Thread}
 use Rattle.mem_model.specs.Code.{function_place}
 use Rattle.mem_model.specs.Do.{Common}
 use Rattle.mem_model.specs.Bound.{Counted}

@@ -1,7 +1,7 @@
 -- Runs of a machine by a schedule, and what it means that one system covers another.
 use Rattle.std.specs.Prelude.{◌≡◌, ℕ, ◌≤◌, List, [], ◌∷◌, length, Option, Some, None}
 use Rattle.mem_model.specs.declared.step.End.{End}
-use Rattle.mem_model.specs.declared.step.End.TheVariants.{Running, Ended, Stuck, Trapped}
+use Rattle.mem_model.specs.declared.step.End.TheVariants.{Ended, Stuck, Trapped}
 use Rattle.mem_model.specs.declared.step.Trap.{Trap}
 
 abbrev pub then_run : {S : Type 0} → Option S → (S → Option S) → Option S

@@ -1,15 +1,14 @@
 -- The source meaning, step by step.
-use Rattle.std.specs.Prelude.{◌≡◌, ℕ, ◌-◌, ◌^◌, List, [], ◌∷◌, Bool, true, false, Option, Some, None, Result, Ok, Err, is_some, if◌then◌else◌}
+use Rattle.std.specs.Prelude.{ℕ, ◌-◌, ◌^◌, List, [], ◌∷◌, Bool, true, false, Option, Some, None, Result, Ok, Err, is_some}
 use Rattle.ir_core.specs.declared.module.Module.{Module}
 use Rattle.mem_model.specs.declared.launch.Launch.{Launch}
 use Rattle.mem_model.specs.declared.step.End.{End}
 use Rattle.mem_model.specs.declared.step.End.TheVariants.{Running, Ended, Stuck, Trapped as TrappedEnd}
 use Rattle.mem_model.specs.declared.step.Trap.{Trap}
-use Rattle.mem_model.specs.declared.memory.Word.{Word}
 use Rattle.mem_model.specs.Thread.{Answers, Thread}
-use Rattle.mem_model.specs.Next.{Action, Event, Does, Deinit, Leaves, Next, Local, Pending, Done, Trapped, NextOf, resumed, line_at}
+use Rattle.mem_model.specs.Next.{Event, Does, Deinit, Leaves, Next, Local, Pending, Done, Trapped, NextOf, resumed, line_at}
 use Rattle.mem_model.specs.Do.{Common, Effect, Do}
-use Rattle.mem_model.specs.Runs.{System, Comes, Safe}
+use Rattle.mem_model.specs.Runs.{Comes, Safe}
 use Rattle.mem_model.specs.Launching.{first_thread, first_memory, first_common, Outcome, outcome_of}
 use Rattle.source_model.specs.declared.Choice.{Choice}
 use Rattle.source_model.specs.declared.Choice.TheVariants.{Main, Region}

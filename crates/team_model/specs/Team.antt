@@ -1,5 +1,5 @@
 -- The team meaning, step by step.
-use Rattle.std.specs.Prelude.{◌≡◌, ℕ, zero, suc, ◌+◌, ◌-◌, ◌^◌, List, [], ◌∷◌, ◌++◌, map, replicate, Bool, true, false, Option, Some, None, Result, Ok, Err, slice_get, slice_set, if◌then◌else◌, ◌==◌}
+use Rattle.std.specs.Prelude.{ℕ, zero, suc, ◌+◌, ◌-◌, ◌^◌, List, [], ◌∷◌, ◌++◌, map, replicate, Bool, true, false, Option, Some, None, Result, Ok, Err, slice_get, slice_set, if◌then◌else◌, ◌==◌}
 use Rattle.std.specs.List.{flat_map, list_all}
 use Rattle.ir_core.specs.declared.instructions.Value.{Value}
 use Rattle.ir_core.specs.declared.instructions.Value.TheVariants.{Int as IntValue}
@@ -20,14 +20,13 @@ use Rattle.mem_model.specs.declared.step.Trap.{Trap}
 use Rattle.mem_model.specs.Memory.{Memory, with_block}
 use Rattle.mem_model.specs.Thread.{Answers, Thread}
 use Rattle.mem_model.specs.Code.{function_place}
-use Rattle.mem_model.specs.Next.{Action, Event, Does, Deinit, Leaves, Next, Local, Pending, Done, Trapped, NextOf, resumed, line_at}
+use Rattle.mem_model.specs.Next.{Event, Does, Deinit, Leaves, Next, Local, Pending, Done, Trapped, NextOf, resumed, line_at}
 use Rattle.mem_model.specs.Do.{Common, Effect, Do}
-use Rattle.mem_model.specs.Runs.{System, Comes}
+use Rattle.mem_model.specs.Runs.{Comes}
 use Rattle.mem_model.specs.Launching.{first_thread, first_memory, first_common, Outcome, outcome_of}
 use Rattle.team_model.specs.declared.Pair.{Pair}
-use Rattle.team_model.specs.declared.Barrier.{Barrier}
 use Rattle.team_model.specs.declared.Stand.{Stand}
-use Rattle.team_model.specs.declared.Stand.TheVariants.{Runs, Waits, Ended as Gone}
+use Rattle.team_model.specs.declared.Stand.TheVariants.{Runs, Ended as Gone}
 use Rattle.team_model.specs.declared.Trapping.{Trapping}
 
 -- what machine threads share: what is common, with the capture area as a block of its memory; how many heap blocks were made;
