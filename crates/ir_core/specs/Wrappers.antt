@@ -1,5 +1,5 @@
 -- Wrappers of regions: the functions that forks name for workers to call.
-use Rattle.std.specs.Prelude.{ℕ, ◌-◌, ◌+◌, List, [], ◌∷◌, ◌++◌, length, map, max, Bool, true, false, codes, Option, Some, None, if◌then◌else◌}
+use Rattle.std.specs.Prelude.{ℕ, ◌-◌, List, [], ◌∷◌, length, map, max, Bool, true, false, codes, Option, Some, None, if◌then◌else◌}
 use Rattle.std.specs.List.{flat_map, filter, fold}
 use Rattle.std.specs.Str.{bytes_eq}
 use Rattle.ir_core.specs.declared.instructions.Value.{Value}
