@@ -1,5 +1,5 @@
 -- A module of the first form keeps it when its machine is switched off.
-use Rattle.std.proofs.Common.{◌≡◌, ℕ, ◌+◌, ◌-◌, List, [], ◌∷◌, ◌++◌, length, take, drop, map, codes, Option, Some, None, Bool, true, false, ◌&&◌, refl, sym, ap, ◌∙◌, subst, if◌then◌else◌, nat_le}
+use Rattle.std.proofs.Common.{◌≡◌, ℕ, ◌+◌, ◌-◌, List, [], ◌∷◌, ◌++◌, length, take, drop, map, Option, Some, None, Bool, true, false, ◌&&◌, refl, ap, ◌∙◌, if◌then◌else◌, nat_le}
 use Rattle.std.specs.List.{flat_map, list_all, fold}
 use Rattle.std.specs.Str.{bytes_eq}
 use Rattle.std.proofs.lemmas.Slice.Eq.{bytes_eq-Decides}
@@ -9,7 +9,7 @@ use Rattle.ir_core.specs.declared.types.Ty.{Ty}
 use Rattle.ir_core.specs.declared.instructions.Value.{Value}
 use Rattle.ir_core.specs.declared.instructions.Value.TheVariants.{Int as IntValue, Null, Local as Register, Global as GlobalValue}
 use Rattle.ir_core.specs.declared.instructions.Typed.{Typed}
-use Rattle.ir_core.specs.declared.instructions.TailWord.TheVariants.{Absent, Tail, NoTail}
+use Rattle.ir_core.specs.declared.instructions.TailWord.TheVariants.{Absent}
 use Rattle.ir_core.specs.declared.instructions.Kind.{Kind}
 use Rattle.ir_core.specs.declared.instructions.Kind.TheVariants.{Call}
 use Rattle.ir_core.specs.declared.instructions.Inst.{Inst}

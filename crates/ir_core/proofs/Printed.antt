@@ -1,11 +1,11 @@
 -- The tokens of a printed text, without their places and lines, found from its end to its front.
-use Rattle.std.proofs.Common.{◌≡◌, ℕ, zero, suc, ◌+◌, ◌-◌, ◌≤◌, ◌<◌, List, [], ◌∷◌, ◌++◌, length, take, drop, map, Option, Some, None, Bool, true, false, cond, refl, sym, ap, ◌∙◌, subst, inl, inr, ◌⊎◌, arith, append_assoc, length-append, take_at, drop_at, nat_lt, codes}
+use Rattle.std.proofs.Common.{◌≡◌, ℕ, suc, ◌+◌, ◌-◌, ◌≤◌, ◌<◌, List, [], ◌∷◌, ◌++◌, length, take, drop, map, Option, Some, None, Bool, true, false, cond, refl, sym, ap, ◌∙◌, subst, inl, arith, append_assoc, length-append, take_at, drop_at, codes}
 use Rattle.std.specs.List.{flat_map}
 use Rattle.std.proofs.lemmas.List.{append-nil, drop-drop, take_all}
 use Rattle.std.proofs.lemmas.Bool.{le-ltb}
-use Rattle.ir_core.specs.Bytes.{Class, Blank, Semicolon, Bracket, Digit, Dash, Letter, Percent, AtSign, Colon, Other, class_of, is_word_class, is_digit_class, word_byte, digit_byte, every}
-use Rattle.ir_core.specs.Tokens.{TokenKind, Word, Local, Global, Label, Number, Mark, Bad, Token, Piece, IsLongest, Pieces, kept, tokens_from, line_at, text_limit, past_limit, with_past, Lexes, Lexeme, lexeme_of, lexemes, has_bad}
-use Rattle.ir_core.specs.Scan.{run, class_at, piece, bad_piece, is_number_tail, name_size, stem_size, by_colon, by_name, by_tail, by_class, piece_at}
+use Rattle.ir_core.specs.Bytes.{Class, Blank, Bracket, Digit, Dash, Letter, Colon, class_of, is_word_class, is_digit_class, word_byte, digit_byte, every}
+use Rattle.ir_core.specs.Tokens.{TokenKind, Word, Local, Global, Label, Number, Mark, Bad, Token, Piece, Pieces, kept, tokens_from, text_limit, past_limit, Lexes, Lexeme, lexemes}
+use Rattle.ir_core.specs.Scan.{run, class_at, piece, is_number_tail, name_size, stem_size, by_colon, by_name, by_tail, by_class, piece_at}
 use Rattle.ir_core.specs.Text.{is_word, is_word_from, is_numeral, is_numeral_from, comma_list}
 use Rattle.ir_core.proofs.Lexing.{run_ended, run_front, every_first, every_more, digit_class, tail_true, tail_made, name_made, not_bad}
 

@@ -1,9 +1,9 @@
 -- Tokens without their places and lines, and what they spell.
-use Rattle.std.proofs.Common.{◌≡◌, ℕ, List, [], ◌∷◌, ◌++◌, map, refl, sym, ap, ◌∙◌, subst, codes, inl, inr}
+use Rattle.std.proofs.Common.{◌≡◌, ℕ, List, [], ◌∷◌, ◌++◌, map, refl, sym, ap, ◌∙◌, subst}
 use Rattle.std.specs.List.{flat_map}
-use Rattle.ir_core.specs.Tokens.{TokenKind, Word, Mark, Lexeme}
-use Rattle.ir_core.specs.Spell.{Spell, done, one, ◌>>=◌, any, many, InTable, IsWordIn, IsWord, word, IsMark, mark, with_line, Items, AtEnd, OneMore, after_comma, items, list_to}
-use Rattle.ir_core.proofs.Printed.{Bare, bare, bare_of, comma, led_by_comma, listed}
+use Rattle.ir_core.specs.Tokens.{Word, Mark, Lexeme}
+use Rattle.ir_core.specs.Spell.{done, one, ◌>>=◌, any, many, InTable, IsWordIn, IsWord, IsMark, with_line, AtEnd, OneMore, after_comma, list_to}
+use Rattle.ir_core.proofs.Printed.{Bare, bare, bare_of, led_by_comma, listed}
 
 -- all tokens that are these, on whatever lines, spell something with the property
 pub record Spelled {X : Type 0} (S : List Lexeme → X → Type 0) (ls : List Bare) (P : X → Type 0) : Type 0 where

@@ -12,3 +12,4 @@ pub mod Lines
 pub mod MachineOff
 pub mod Notes
 pub mod ReadsBack
+pub mod Wrappers

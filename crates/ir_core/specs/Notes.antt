@@ -1,7 +1,6 @@
 -- The lines that are written on the notes for a module: its refusal, or the remarks on it.
-use Rattle.std.specs.Prelude.{ℕ, List, [], ◌∷◌, ◌++◌, codes, decimal}
+use Rattle.std.specs.Prelude.{ℕ, List, ◌++◌, codes, decimal}
 use Rattle.std.specs.List.{flat_map}
-use Rattle.ir_core.specs.declared.instructions.Value.TheVariants.{Global as GlobalValue}
 use Rattle.ir_core.specs.declared.refusal.Construct.{Construct}
 use Rattle.ir_core.specs.declared.refusal.Construct.TheVariants.{Syntax, DuplicateName, MissingName, TypeMismatch, FloatType, VectorType, WideInteger, AddressSpace, UndefValue, AggregateValue, VolatileAccess, InlineAsm, IndirectCall, UnknownCallee, Invoke, PointerOrder, MetadataOperand, Signature, KernelShape, SpmdInput, WrapperShape, ClauseArgument, NestedParallel, Limit, ModeIntrinsic, ConstantExpression, NotBuilt}
 use Rattle.ir_core.specs.declared.refusal.Refusal.{Refusal}

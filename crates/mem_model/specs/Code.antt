@@ -1,0 +1,46 @@
+-- Look-ups in a module: instructions by place, blocks by name.
+use Rattle.std.specs.Prelude.{ℕ, ◌+◌, List, [], ◌∷◌, map, Option, Some, None, slice_get, if◌then◌else◌}
+use Rattle.std.specs.Str.{bytes_eq}
+use Rattle.ir_core.specs.declared.module.Module.{Module}
+use Rattle.ir_core.specs.declared.module.Function.{Function}
+use Rattle.ir_core.specs.declared.module.Block.{Block}
+use Rattle.ir_core.specs.declared.instructions.Inst.{Inst}
+use Rattle.mem_model.specs.Thread.{Name, Place}
+
+abbrev pub block_in : Option Function → ℕ → Option Block
+block_in None b = None
+block_in (Some f) b = slice_get f.blocks b
+
+abbrev pub inst_in : Option Block → ℕ → Option Inst
+inst_in None i = None
+inst_in (Some b) i = slice_get b.insts i
+
+-- the instruction at a place
+abbrev pub inst_at : Module → Place → Option Inst
+inst_at m p = inst_in (block_in (slice_get m.functions p.function) p.block) p.index
+
+-- the place of a name in a list
+abbrev pub place_from : ℕ → List Name → Name → Option ℕ
+place_from n [] x = None
+place_from n (y ∷ ys) x = if bytes_eq y x then Some n else place_from (n + 1) ys x
+
+abbrev pub place_in : List Name → Name → Option ℕ
+place_in = place_from 0
+
+abbrev pub block_name : Block → Name
+block_name b = b.name
+
+abbrev pub labels_of : Option Function → List Name
+labels_of None = []
+labels_of (Some f) = map block_name f.blocks
+
+-- the names of a function's blocks
+abbrev pub labels : Module → ℕ → List Name
+labels m f = labels_of (slice_get m.functions f)
+
+abbrev pub function_name : Function → Name
+function_name f = f.name
+
+-- the place of a function in the module
+abbrev pub function_place : Module → Name → Option ℕ
+function_place m x = place_in (map function_name m.functions) x

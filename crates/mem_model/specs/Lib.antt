@@ -1,0 +1,12 @@
+pub mod Blocks
+pub mod Words
+pub mod Memory
+pub mod Eval
+pub mod Thread
+pub mod Code
+pub mod Next
+pub mod Do
+pub mod Runs
+pub mod Bound
+pub mod Launching
+pub mod MemoryLaws

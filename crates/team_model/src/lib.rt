@@ -1,0 +1,53 @@
+//! The team meaning: what an optimised module does on a team of machine threads. In generic mode W workers and a main
+//! thread begin the kernel, in SPMD mode W threads; a schedule picks one of them for each step.
+//!
+//! `specs/Team.antt` has the definitions.
+#![tactic(auto)]
+
+use mem_model::Trap;
+
+/// Steps of one machine thread in a row.
+#[derive(Clone, Copy)]
+pub struct Pair {
+    pub thread: u32,
+    pub count: u32,
+}
+
+/// A kind of barrier. Unlike kinds never open each other.
+#[derive(Clone, Copy)]
+pub enum Barrier {
+    /// `__kmpc_barrier` in a region: it opens when all region threads wait at it.
+    Explicit,
+    /// At the ends of a fork: it opens when every machine thread that has not ended waits at it.
+    Team,
+    /// At the end of a fork in SPMD mode.
+    Join,
+    /// Round a guarded instruction in SPMD mode.
+    Guard,
+}
+
+/// How a machine thread stands.
+#[derive(Clone, Copy)]
+pub enum Stand {
+    Runs,
+    Waits(Barrier),
+    Ended,
+}
+
+/// The trap that has ended a run.
+#[derive(Clone, Copy)]
+pub struct Trapping {
+    pub thread: u32,
+    pub line: u32,
+    pub trap: Trap,
+}
+
+ghost use Rattle.std.specs.Prelude.{◌≡◌, ◌++◌, List, ℕ};
+ghost use Rattle.ir_core.specs.declared.module.Module.{Module};
+ghost use Rattle.mem_model.specs.Runs.{run, then_run};
+ghost use Rattle.team_model.specs.Team.{Team, team_step};
+
+/// A run of a schedule cut in two is the run of the second part from the state after the first.
+pub fn run_in_two()
+    ensures { (m : Module) (first second : List ℕ) (s : Team) → run (team_step m) (first ++ second) s ≡ then_run (run (team_step m) first s) (run (team_step m) second) }
+{}
