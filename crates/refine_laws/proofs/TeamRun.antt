@@ -6,12 +6,12 @@ use Rattle.mem_model.specs.declared.memory.Byte.TheVariants.{Num}
 use Rattle.mem_model.specs.declared.step.End.TheVariants.{Ended}
 use Rattle.mem_model.specs.declared.step.Trap.{Trap}
 use Rattle.mem_model.specs.Memory.{Memory, with_block}
-use Rattle.mem_model.specs.Thread.{Thread}
+use Rattle.mem_model.specs.Thread.{ThreadState}
 use Rattle.mem_model.specs.Do.{stored}
 use Rattle.mem_model.specs.Runs.{run, Comes}
 use Rattle.mem_model.specs.Launching.{first_memory, first_common}
 use Rattle.team_model.specs.declared.Stand.TheVariants.{Runs}
-use Rattle.team_model.specs.Team.{Team, TeamSystem, main_answers, first_threads, with_captures, team_step, team_end, team_outcome, acts}
+use Rattle.team_model.specs.Team.{Team, TeamSystem, main_answers, first_threads, with_captures, TeamStep, team_end, team_outcome, acts}
 use Rattle.refine_laws.specs.Example.{example, launch, result_of_run}
 use Rattle.refine_laws.proofs.Stored.{HasBuffer, with_seven, goes, shows, stays, first_has, outcome_with, some_or}
 
@@ -22,22 +22,22 @@ team_from m = record {
 }
 
 abbrev team_before : Memory → Team
-team_before m = some_or (team_from m) (run (team_step (example false)) (1 ∷ 1 ∷ 1 ∷ []) (team_from m))
+team_before m = some_or (team_from m) (run (TeamStep (example false)) (1 ∷ 1 ∷ 1 ∷ []) (team_from m))
 
-abbrev no_thread : Thread
+abbrev no_thread : ThreadState
 no_thread = record { own = 0; counter = 0; frames = []; answers = main_answers }
 
 -- the main thread before the store
-abbrev main_thread : Memory → Thread
+abbrev main_thread : Memory → ThreadState
 main_thread m = some_or no_thread (slice_get (team_before m).threads 1)
 
 abbrev team_from_store : Memory → Result Memory Trap → Option Team
-team_from_store m r = run (team_step (example false)) (1 ∷ 1 ∷ 0 ∷ 0 ∷ 0 ∷ 0 ∷ []) (acts (example false) (team_before m) 1 (main_thread m) (stored (first_common m) r))
+team_from_store m r = run (TeamStep (example false)) (1 ∷ 1 ∷ 0 ∷ 0 ∷ 0 ∷ 0 ∷ []) (acts (example false) (team_before m) 1 (main_thread m) (stored (first_common m) r))
 
 abbrev team_last : Memory → Memory → Team
 team_last m after = some_or (team_from m) (team_from_store m (Ok after))
 
-team_comes : (m : Memory) → HasBuffer m → Comes (team_step (example false)) (team_from m) team_end (team_outcome (example true) launch) 10 Ended result_of_run
+team_comes : (m : Memory) → HasBuffer m → Comes (TeamStep (example false)) (team_from m) team_end (team_outcome (example true) launch) 10 Ended result_of_run
 team_comes m e = (1 ∷ 1 ∷ 1 ∷ 1 ∷ 1 ∷ 1 ∷ 0 ∷ 0 ∷ 0 ∷ 0 ∷ [], team_last m (with_seven m), refl, ap (team_from_store m) (goes m e), refl, ap outcome_with (shows m e))
 
 -- the capture area keeps the buffer, whatever its bytes
