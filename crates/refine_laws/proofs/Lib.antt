@@ -1,3 +1,5 @@
 pub mod Stored
 pub mod SourceRun
 pub mod TeamRun
+pub mod SameNext
+pub mod AlikeMemory
