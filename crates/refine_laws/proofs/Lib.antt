@@ -3,3 +3,4 @@ pub mod SourceRun
 pub mod TeamRun
 pub mod SameNext
 pub mod AlikeMemory
+pub mod KernelShape
