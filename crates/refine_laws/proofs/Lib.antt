@@ -4,3 +4,6 @@ pub mod TeamRun
 pub mod SameNext
 pub mod AlikeMemory
 pub mod KernelShape
+pub mod ListPlaces
+pub mod Workers
+pub mod Relation
