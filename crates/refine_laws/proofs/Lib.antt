@@ -7,3 +7,4 @@ pub mod KernelShape
 pub mod ListPlaces
 pub mod Workers
 pub mod Relation
+pub mod EachStep
