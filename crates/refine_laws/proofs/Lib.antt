@@ -8,3 +8,5 @@ pub mod ListPlaces
 pub mod Workers
 pub mod Relation
 pub mod EachStep
+pub mod Start
+pub mod Cover

@@ -1,21 +1,24 @@
 -- The module with its machine off has the same next step at every thread state.
-use Rattle.std.proofs.Common.{◌≡◌, ℕ, List, [], ◌∷◌, Option, Some, None, refl, sym, ap, ◌∙◌, map}
+use Rattle.std.proofs.Common.{◌≡◌, ℕ, List, [], ◌∷◌, ◌++◌, Bool, true, false, Option, Some, None, refl, sym, ap, ◌∙◌, map}
 use Rattle.std.specs.Prelude.{slice_get, option_map, ◌==◌, if◌then◌else◌}
+use Rattle.std.specs.List.{flat_map}
 use Rattle.std.proofs.lemmas.Option.{slice_get-map}
 use Rattle.ir_core.specs.declared.module.Module.{Module}
 use Rattle.ir_core.specs.declared.module.Function.{Function}
 use Rattle.ir_core.specs.declared.module.Block.{Block}
 use Rattle.ir_core.specs.declared.instructions.Inst.{Inst}
 use Rattle.ir_core.specs.declared.instructions.Value.{Value}
+use Rattle.ir_core.specs.declared.instructions.Typed.{Typed}
 use Rattle.ir_core.specs.declared.instructions.Kind.{Kind}
 use Rattle.ir_core.specs.declared.instructions.Kind.TheVariants.{Call, Br, CondBr, Ret}
-use Rattle.ir_core.specs.MachineOff.{kind_off, inst_off, block_off, function_off, machine_off}
+use Rattle.ir_core.specs.MachineOff.{calls_init, operands_off, kind_off, inst_off, block_off, function_off, machine_off}
 use Rattle.mem_model.specs.declared.launch.Launch.{Launch}
 use Rattle.mem_model.specs.declared.memory.Word.{Word}
 use Rattle.mem_model.specs.Thread.{Name, Place, Answers, Frame, ThreadState}
 use Rattle.mem_model.specs.Code.{block_in, inst_in, inst_at, block_name, labels_of, labels, function_name, function_place, place_in}
 use Rattle.mem_model.specs.Next.{with_found, with_number, value_word, to_block, goes_on, next_kind, next_inst, next_frames, Next, result_of, resumed_frames, resumed, line_of, frames_line, line_at}
 use Rattle.mem_model.specs.Launching.{params_of, registers_from, first_registers, thread_at, first_thread}
+use Rattle.team_model.specs.Team.{mode_operand, kind_modes, inst_modes, block_modes, is_spmd_mode, is_spmd_function, function_at, is_spmd}
 
 -- ---- look-ups
 
@@ -120,3 +123,39 @@ thread_at_same m l own answers (Some k) = λ i. record {
 
 pub first_thread_same : (m : Module) (l : Launch) (own : ℕ) (answers : Answers) → first_thread (machine_off m) l own answers ≡ first_thread m l own answers
 first_thread_same m l own answers = ap (thread_at (machine_off m) l own answers) (function_place_same m l.kernel) ∙ thread_at_same m l own answers (function_place m l.kernel)
+
+-- ---- the mode
+
+operand_same : (operands : List Typed) → mode_operand (operands_off operands) ≡ mode_operand operands
+operand_same [] = refl
+operand_same (a ∷ []) = refl
+operand_same (a ∷ b ∷ []) = refl
+operand_same (a ∷ b ∷ c ∷ []) = refl
+operand_same (a ∷ b ∷ c ∷ d ∷ more) = refl
+
+call_modes_same : (init : Bool) (operands : List Typed) → (if init then mode_operand (if init then operands_off operands else operands) else []) ≡ (if init then mode_operand operands else [])
+call_modes_same true operands = operand_same operands
+call_modes_same false operands = refl
+
+kind_modes_same : (k : Kind) → kind_modes (kind_off k) ≡ kind_modes k
+kind_modes_same (Call tail_word ret callee operands) = call_modes_same (calls_init callee) operands
+kind_modes_same _ = refl
+
+insts_modes_same : (is : List Inst) → flat_map inst_modes (map inst_off is) ≡ flat_map inst_modes is
+insts_modes_same [] = refl
+insts_modes_same (i ∷ is) = ap (λ ms. ms ++ flat_map inst_modes (map inst_off is)) (kind_modes_same i.kind) ∙ ap (λ ms. inst_modes i ++ ms) (insts_modes_same is)
+
+blocks_modes_same : (bs : List Block) → flat_map block_modes (map block_off bs) ≡ flat_map block_modes bs
+blocks_modes_same [] = refl
+blocks_modes_same (b ∷ bs) = ap (λ ms. ms ++ flat_map block_modes (map block_off bs)) (insts_modes_same b.insts) ∙ ap (λ ms. block_modes b ++ ms) (blocks_modes_same bs)
+
+spmd_function_same : (o : Option Function) → is_spmd_function (option_map function_off o) ≡ is_spmd_function o
+spmd_function_same None = refl
+spmd_function_same (Some f) = ap is_spmd_mode (blocks_modes_same f.blocks)
+
+spmd_at_same : (m : Module) (o : Option ℕ) → is_spmd_function (function_at (machine_off m) o) ≡ is_spmd_function (function_at m o)
+spmd_at_same m None = refl
+spmd_at_same m (Some k) = ap is_spmd_function (slice_get-map function_off m.functions k) ∙ spmd_function_same (slice_get m.functions k)
+
+pub spmd_same : (m : Module) (l : Launch) → is_spmd (machine_off m) l ≡ is_spmd m l
+spmd_same m l = ap (λ o. is_spmd_function (function_at (machine_off m) o)) (function_place_same m l.kernel) ∙ spmd_at_same m (function_place m l.kernel)
