@@ -1,5 +1,5 @@
 -- Two memories that agree but for the capture area: loads and stores agree.
-use Rattle.std.proofs.Common.{◌≡◌, ℕ, zero, suc, ◌+◌, ℤ, List, [], ◌∷◌, length, map, Bool, true, false, cond, Option, Some, None, Result, Ok, Err, refl, sym, ap, ◌∙◌, subst, inl, inr, ◌⊎◌, replicate}
+use Rattle.std.proofs.Common.{◌≡◌, ℕ, zero, suc, ◌+◌, List, [], ◌∷◌, length, map, Bool, true, false, cond, Some, None, Result, Ok, Err, refl, sym, ap, ◌∙◌, subst, inl, inr, ◌⊎◌}
 use Rattle.std.specs.FinMap as fin
 use Rattle.std.specs.FinMap.{FinMap, get-insert}
 use Rattle.std.specs.Ordering.{eq_by_cmp}
@@ -8,14 +8,12 @@ use Rattle.mem_model.specs.declared.memory.BlockName.TheVariants.{Arg, Global, H
 use Rattle.mem_model.specs.declared.memory.Ptr.{Ptr}
 use Rattle.mem_model.specs.declared.memory.Ptr.TheVariants.{Num as Number, At}
 use Rattle.mem_model.specs.declared.memory.Byte.{Byte}
-use Rattle.mem_model.specs.declared.memory.Byte.TheVariants.{Num}
-use Rattle.mem_model.specs.declared.memory.Word.{Word}
 use Rattle.mem_model.specs.declared.memory.Cell.{Cell}
 use Rattle.mem_model.specs.declared.step.Trap.{Trap}
 use Rattle.mem_model.specs.declared.step.Trap.TheVariants.{NoBlock}
 use Rattle.mem_model.specs.Blocks.{block_cmp, place_cmp}
 use Rattle.mem_model.specs.Words.{cell_size, word_bytes, word_in}
-use Rattle.mem_model.specs.Memory.{Memory, Header, Given, Shares, Leaks, access, byte_or_zero, bytes_at, load_from, Load, put_bytes, store_given, store_to, Store, header_size, shown_byte, shown_block, with_block}
+use Rattle.mem_model.specs.Memory.{Memory, Given, Shares, Leaks, access, byte_or_zero, bytes_at, load_from, Load, put_bytes, store_given, store_to, Store, header_size, shown_byte, shown_block, with_block}
 use Rattle.mem_model.proofs.Orders.{block_total, place_total}
 use Rattle.mem_model.proofs.StoreLaws.{put_apart}
 

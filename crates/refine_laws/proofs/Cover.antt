@@ -1,5 +1,5 @@
 -- The team of a kernel with its machine off does what the source does.
-use Rattle.std.proofs.Common.{◌≡◌, ℕ, zero, suc, ◌+◌, ◌-◌, ◌*◌, ◌^◌, ◌<◌, ◌≤◌, List, [], ◌∷◌, ◌++◌, length, map, Bool, true, false, ◌&&◌, Option, Some, None, refl, sym, ap, ◌∙◌, subst, arith, is_some, mul-le-mul}
+use Rattle.std.proofs.Common.{◌≡◌, ℕ, ◌+◌, ◌*◌, ◌<◌, ◌≤◌, List, [], ◌∷◌, ◌++◌, length, Bool, true, false, Some, None, refl, sym, ap, ◌∙◌, subst, arith, is_some, mul-le-mul}
 use Rattle.std.specs.Prelude.{slice_get, if◌then◌else◌}
 use Rattle.std.specs.List.{list_all}
 use Rattle.std.proofs.Math.Nat.{mul-add}
@@ -17,8 +17,7 @@ use Rattle.mem_model.specs.declared.step.End.TheVariants.{Running, Ended, Stuck,
 use Rattle.mem_model.specs.Code.{function_place}
 use Rattle.mem_model.specs.Bound.{Counted, whole_bound}
 use Rattle.mem_model.specs.Runs.{run, Safe, Covers}
-use Rattle.mem_model.specs.Launching.{Fits, threads_limit, buffer_names, global_names, shown_names, Outcome, outcome_of, counted, Bound}
-use Rattle.mem_model.proofs.Runs.{none_is_not_some}
+use Rattle.mem_model.specs.Launching.{Fits, threads_limit, buffer_names, global_names, shown_names, counted, Bound}
 use Rattle.mem_model.proofs.Simulation.{Meets, meets_run}
 use Rattle.source_model.specs.declared.Choice.TheVariants.{Main}
 use Rattle.source_model.specs.Source as source

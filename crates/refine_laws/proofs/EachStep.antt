@@ -1,6 +1,6 @@
 -- Each step of the team is met by a step of the source, or by none.
-use Rattle.std.proofs.Common.{◌≡◌, ◌≢◌, ℕ, zero, suc, ◌+◌, ◌-◌, ◌*◌, ◌<◌, ◌≤◌, List, [], ◌∷◌, length, get_or, Bool, true, false, Option, Some, None, Result, Ok, Err, refl, sym, ap, ◌∙◌, subst, arith, ◌⊎◌, inl, inr}
-use Rattle.std.specs.Prelude.{slice_get, slice_set}
+use Rattle.std.proofs.Common.{◌≡◌, ◌≢◌, ℕ, zero, suc, ◌+◌, ◌<◌, ◌≤◌, [], ◌∷◌, length, get_or, Bool, true, false, Option, Some, None, Result, Ok, Err, refl, sym, ap, ◌∙◌, subst, arith, ◌⊎◌, inl, inr}
+use Rattle.std.specs.Prelude.{slice_get}
 use Rattle.std.proofs.lemmas.Bool.{cases_eq}
 use Rattle.std.proofs.lemmas.Option.{slice_get_within, slice_get-get_or}
 use Rattle.ir_core.specs.declared.module.Module.{Module}
@@ -14,8 +14,8 @@ use Rattle.mem_model.specs.declared.step.Trap.{Trap}
 use Rattle.mem_model.specs.declared.step.Trap.TheVariants.{NoBlock}
 use Rattle.mem_model.specs.Memory.{Memory, Given, Load, Store}
 use Rattle.mem_model.specs.Thread.{ThreadState}
-use Rattle.mem_model.specs.Next.{Loads, Stores, Event, Does, Deinit, Leaves, NextStep, Local, Pending, Done, Trapped, Next, resumed, line_at}
-use Rattle.mem_model.specs.Do.{Common, loaded, stored}
+use Rattle.mem_model.specs.Next.{Loads, Stores, Does, Deinit, Leaves, NextStep, Local, Pending, Done, Trapped, Next, resumed, line_at}
+use Rattle.mem_model.specs.Do.{loaded, stored}
 use Rattle.mem_model.specs.Runs.{run, then_run, Safe}
 use Rattle.mem_model.proofs.Runs.{some_injective, none_is_not_some}
 use Rattle.mem_model.proofs.Simulation.{IsReached, reached_then, Meets, MeetsEach}
@@ -27,10 +27,10 @@ use Rattle.team_model.specs.declared.Stand.TheVariants.{Runs, Waits, Ended as Go
 use Rattle.team_model.specs.Team as team
 use Rattle.team_model.specs.Team.{Team, TeamStep, by_next, by_thread, by_stand, unless_trapped, slot_after_deinit}
 use Rattle.refine_laws.proofs.SameNext.{next_same, resumed_same}
-use Rattle.refine_laws.proofs.AlikeMemory.{Alike, load_alike, store_alike, BothStored}
+use Rattle.refine_laws.proofs.AlikeMemory.{load_alike, store_alike, BothStored}
 use Rattle.refine_laws.proofs.KernelShape.{KernelShape, minus_one}
 use Rattle.refine_laws.proofs.Workers.{worker, worker_does, worker_next}
-use Rattle.refine_laws.proofs.Relation.{stand_of, worker_stand, source_moved, team_moved, Tied, main_moves, main_leaves, worker_moves, worker_leaves}
+use Rattle.refine_laws.proofs.Relation.{stand_of, worker_stand, team_moved, Tied, main_moves, main_leaves, worker_moves, worker_leaves}
 
 -- what a step of thread d says
 pub record Moves (m : Module) (t : Team) (d : ℕ) (u : Team) : Type 0 where

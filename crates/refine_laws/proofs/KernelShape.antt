@@ -1,16 +1,15 @@
 -- What the kernel of a module of the first form does in its first block and in its third.
-use Rattle.std.proofs.Common.{◌≡◌, ◌≢◌, ℕ, zero, suc, ◌+◌, ◌-◌, ◌^◌, List, [], ◌∷◌, ◌++◌, map, Bool, true, false, ◌&&◌, not, Option, Some, None, Result, Ok, Err, refl, sym, ap, ◌∙◌, subst, arith, ◌⊎◌, inl, inr}
+use Rattle.std.proofs.Common.{◌≡◌, ◌≢◌, ℕ, zero, suc, ◌-◌, ◌^◌, List, [], ◌∷◌, ◌++◌, map, Bool, true, false, ◌&&◌, not, Option, Some, None, Result, Ok, refl, sym, ap, ◌∙◌, subst, arith, ◌⊎◌, inl, inr}
 use Rattle.std.specs.Prelude.{slice_get, ◌==◌, if◌then◌else◌}
-use Rattle.std.specs.List.{flat_map, list_all}
+use Rattle.std.specs.List.{flat_map}
 use Rattle.std.specs.Str.{bytes_eq}
 use Rattle.std.proofs.lemmas.Slice.Eq.{bytes_eq-Decides}
-use Rattle.std.proofs.lemmas.Bool.{and_parts, and_from, false_from_ne_true}
+use Rattle.std.proofs.lemmas.Bool.{and_parts, false_from_ne_true}
 use Rattle.std.proofs.lemmas.Bool.Decides.{nat_tests}
 use Rattle.ir_core.specs.declared.types.Ty.{Ty}
 use Rattle.ir_core.specs.declared.instructions.Value.{Value}
 use Rattle.ir_core.specs.declared.instructions.Value.TheVariants.{Int as IntValue, Null, Local as Register, Global as GlobalValue}
 use Rattle.ir_core.specs.declared.instructions.Typed.{Typed}
-use Rattle.ir_core.specs.declared.instructions.Pred.{Pred}
 use Rattle.ir_core.specs.declared.instructions.Pred.TheVariants.{Eq}
 use Rattle.ir_core.specs.declared.instructions.TailWord.TheVariants.{Absent}
 use Rattle.ir_core.specs.declared.instructions.Kind.{Kind}
@@ -21,16 +20,16 @@ use Rattle.ir_core.specs.declared.module.Function.{Function}
 use Rattle.ir_core.specs.declared.module.Block.{Block}
 use Rattle.ir_core.specs.EntryPoints.{target_init, target_deinit}
 use Rattle.ir_core.specs.MachineOff.{calls_init}
-use Rattle.ir_core.specs.Wrappers.{block_callees, callees, is_in}
+use Rattle.ir_core.specs.Wrappers.{block_callees, is_in}
 use Rattle.ir_core.specs.FirstForm
 use Rattle.ir_core.specs.FirstForm.{is_function, is_int_of, is_number, is_register, is_null_ptr, is_constant, is_init_operands, is_init_kind, is_minus_one, are_compared, is_test_kind, is_branch_kind, is_branch, by_test, by_init, is_entry, is_user, is_return_kind, is_return, is_exit, are_kernel_blocks, is_kernel, given, name_of, label_given, block_given, holds, all_apart, has_good_names, is_well_formed, are_functions, is_first_form}
 use Rattle.mem_model.specs.declared.memory.Word.{Word}
 use Rattle.mem_model.specs.declared.memory.Word.TheVariants.{Int}
 use Rattle.mem_model.specs.declared.step.Trap.{Trap}
-use Rattle.mem_model.specs.Eval.{truth, same_word, compared}
+use Rattle.mem_model.specs.Eval.{truth, compared}
 use Rattle.mem_model.specs.Thread.{Name, Frame, ThreadState}
 use Rattle.mem_model.specs.Code.{inst_in, block_name, labels, place_in}
-use Rattle.mem_model.specs.Next.{NextStep, Local, Pending, Leaves, register_word, with_found, with_number, with_result, value_word, goes_on, to_block, CallsInit, CallsDeinit, CallsOther, Callee, callee_of, next_call, next_kind, next_inst}
+use Rattle.mem_model.specs.Next.{NextStep, Local, Pending, Leaves, register_word, with_found, with_number, with_result, value_word, goes_on, to_block, CallsInit, CallsDeinit, CallsOther, callee_of, next_call, next_kind, next_inst}
 use Rattle.mem_model.specs.Launching.{is_kernel as is_launched}
 use Rattle.mem_model.proofs.Runs.{some_injective, none_is_not_some}
 use Rattle.team_model.specs.Team.{kind_modes, mode_operand, mode_number, inst_modes, block_modes, is_spmd_mode}
@@ -161,7 +160,6 @@ pub record EntryShape (user exit : Name) (is : List Inst) : Type 0 where
   pub tests : Tests (slice_get is 1) x y
   pub branches : Branches (slice_get is 2) y exit
   pub generic : (more : List ℕ) → is_spmd_mode (flat_map inst_modes is ++ more) ≡ false
-
 
 entry_by_test : (flag : Bool) (user exit : Name) (init test branch : Inst) (x : Name) (o : Option Name) → init.result ≡ Some x → test.result ≡ o → is_init_kind flag init.kind ≡ true → by_test x o user exit test branch ≡ true → EntryShape user exit (init ∷ test ∷ branch ∷ [])
 entry_by_test flag user exit init test branch x None hx ho k e = let f : ⊥ = cc in absurd f

@@ -1,5 +1,5 @@
 -- What ties a source state to a team state: the same main thread, memories that are alike, and workers on their way out.
-use Rattle.std.proofs.Common.{◌≡◌, ◌≢◌, ℕ, zero, suc, ◌+◌, ◌-◌, ◌<◌, ◌≤◌, List, [], ◌∷◌, length, Bool, true, false, Option, Some, None, refl, sym, ap, ◌∙◌, arith, length-set}
+use Rattle.std.proofs.Common.{◌≡◌, ◌≢◌, ℕ, zero, suc, ◌+◌, ◌-◌, ◌<◌, ◌≤◌, List, [], length, Bool, true, false, Option, Some, None, refl, sym, ◌∙◌, arith, length-set}
 use Rattle.std.specs.Prelude.{slice_get, slice_set}
 use Rattle.std.specs.List.{list_all}
 use Rattle.std.proofs.lemmas.Option.{slice_get_within}
@@ -8,11 +8,10 @@ use Rattle.ir_core.specs.declared.module.Function.{Function}
 use Rattle.mem_model.specs.declared.launch.Launch.{Launch}
 use Rattle.mem_model.specs.Memory.{Memory}
 use Rattle.mem_model.specs.Thread.{ThreadState}
-use Rattle.mem_model.specs.Do.{Common}
 use Rattle.source_model.specs.Source.{SourceState}
 use Rattle.team_model.specs.declared.Stand.{Stand}
 use Rattle.team_model.specs.declared.Stand.TheVariants.{Runs, Waits, Ended as Gone}
-use Rattle.team_model.specs.Team.{Team, TeamShared}
+use Rattle.team_model.specs.Team.{Team}
 use Rattle.refine_laws.proofs.AlikeMemory.{Alike}
 use Rattle.refine_laws.proofs.ListPlaces.{set_here, set_else, all_after_set, total_of, total_falls, both_set, first_set}
 use Rattle.refine_laws.proofs.KernelShape.{KernelShape}

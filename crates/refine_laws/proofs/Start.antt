@@ -1,5 +1,5 @@
 -- The first states are tied.
-use Rattle.std.proofs.Common.{◌≡◌, ℕ, zero, suc, ◌+◌, ◌-◌, ◌*◌, List, [], ◌∷◌, ◌++◌, length, map, replicate, Bool, true, false, Option, Some, None, refl, sym, ap, ◌∙◌, subst, arith}
+use Rattle.std.proofs.Common.{◌≡◌, ℕ, zero, suc, ◌+◌, ◌*◌, List, [], ◌∷◌, ◌++◌, length, map, replicate, true, false, Some, None, refl, sym, ap, ◌∙◌, subst, arith}
 use Rattle.std.specs.Prelude.{slice_get, option_map}
 use Rattle.std.specs.FinMap as fin
 use Rattle.std.specs.FinMap.{get-insert, get-empty}
@@ -21,8 +21,6 @@ use Rattle.mem_model.specs.Launching.{thread_at, first_thread, with_buffer, with
 use Rattle.mem_model.proofs.Orders.{block_total}
 use Rattle.mem_model.proofs.Runs.{none_is_not_some, some_injective}
 use Rattle.source_model.specs.Source.{source_start}
-use Rattle.team_model.specs.declared.Stand.{Stand}
-use Rattle.team_model.specs.declared.Stand.TheVariants.{Runs}
 use Rattle.team_model.specs.Team.{Team, is_spmd_function, function_at, is_spmd, worker_answers, main_answers, threads_from, first_threads, runs_at_first, started, team_start}
 use Rattle.refine_laws.proofs.SameNext.{first_thread_same, spmd_same}
 use Rattle.refine_laws.proofs.AlikeMemory.{captures_alike}
