@@ -10,3 +10,4 @@ pub mod Relation
 pub mod EachStep
 pub mod Start
 pub mod Cover
+pub mod Refining
