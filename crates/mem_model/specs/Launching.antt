@@ -19,10 +19,10 @@ use Rattle.mem_model.specs.declared.memory.Byte.TheVariants.{Num}
 use Rattle.mem_model.specs.declared.memory.Word.{Word}
 use Rattle.mem_model.specs.declared.memory.Word.TheVariants.{Int, Ptr as Address}
 use Rattle.mem_model.specs.Memory.{Memory, no_blocks, with_block, block_limit, shown_block}
-use Rattle.mem_model.specs.Thread.{Registers, no_registers, Answers, Thread}
+use Rattle.mem_model.specs.Thread.{Registers, no_registers, Answers, ThreadState}
 use Rattle.mem_model.specs.Code.{function_place}
 use Rattle.mem_model.specs.Do.{Common}
-use Rattle.mem_model.specs.Bound.{Counted}
+use Rattle.mem_model.specs.Bound.{Counted, whole_bound}
 
 -- ---- launches that fit
 
@@ -92,7 +92,7 @@ abbrev pub first_registers : Module → ℕ → Launch → Registers
 first_registers m k l = registers_from 0 (params_of (slice_get m.functions k)) l.args
 
 -- a thread with this number at the start of the kernel; where there is none, it has no call
-abbrev pub thread_at : Module → Launch → ℕ → Answers → Option ℕ → Thread
+abbrev pub thread_at : Module → Launch → ℕ → Answers → Option ℕ → ThreadState
 thread_at m l own answers None = record { own = own; counter = 0; frames = []; answers = answers }
 thread_at m l own answers (Some k) = record {
   own = own;
@@ -101,7 +101,7 @@ thread_at m l own answers (Some k) = record {
   answers = answers;
 }
 
-abbrev pub first_thread : Module → Launch → ℕ → Answers → Thread
+abbrev pub first_thread : Module → Launch → ℕ → Answers → ThreadState
 first_thread m l own answers = thread_at m l own answers (function_place m l.kernel)
 
 abbrev pub with_buffer : ℕ → Arg → Memory → Memory
@@ -146,3 +146,7 @@ outcome_of m l c = record { prints = c.prints; blocks = map (shown_block c.memor
 -- what the step bound counts
 abbrev pub counted : Module → Launch → Counted
 counted m l = record { threads = l.threads; wrappers = length (wrappers m); captures = most_captures m }
+
+-- how many steps an optimised run may have for n steps of the source
+abbrev pub Bound : Module → Launch → ℕ → ℕ
+Bound m l n = whole_bound (counted m l) n

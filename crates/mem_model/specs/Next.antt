@@ -20,7 +20,7 @@ use Rattle.mem_model.specs.declared.step.Trap.{Trap}
 use Rattle.mem_model.specs.declared.step.Trap.TheVariants.{Unassigned, Unreachable, NoBlock}
 use Rattle.mem_model.specs.Memory.{Given}
 use Rattle.mem_model.specs.Eval.{computed, compared}
-use Rattle.mem_model.specs.Thread.{Name, Place, Registers, Code, Frame, Thread, Where, InStack, Elsewhere, where_is, given_of, assigned, find_in, put_in, load_own, store_own}
+use Rattle.mem_model.specs.Thread.{Name, Place, Registers, Code, Frame, ThreadState, Where, InStack, Elsewhere, where_is, given_of, assigned, find_in, put_in, load_own, store_own}
 use Rattle.mem_model.specs.Code.{inst_at, labels, place_in}
 
 -- ---- events: what a thread does to what it shares with others
@@ -37,11 +37,11 @@ pub data Event : Type 0 where
   Leaves : Event
 
 -- a step of its own, a pending event, the end of the thread, or a trap
-pub data Next : Type 0 where
-  Local : Thread → Next
-  Pending : Event → Next
-  Done : Next
-  Trapped : Trap → Next
+pub data NextStep : Type 0 where
+  Local : ThreadState → NextStep
+  Pending : Event → NextStep
+  Done : NextStep
+  Trapped : Trap → NextStep
 
 -- ---- operands
 
@@ -64,20 +64,20 @@ width_of (IntTy width) = width
 width_of _ = 64
 
 -- goes on with what was found, or traps
-abbrev pub with_found : {A : Type 0} → Result A Trap → (A → Next) → Next
+abbrev pub with_found : {A : Type 0} → Result A Trap → (A → NextStep) → NextStep
 with_found (Err e) go = Trapped e
 with_found (Ok x) go = go x
 
 -- an operand of another kind is in no checked module
-abbrev pub with_number : Word → (ℕ → Next) → Next
+abbrev pub with_number : Word → (ℕ → NextStep) → NextStep
 with_number (Int n) go = go n
 with_number (Address p) go = Trapped Unreachable
 
-abbrev pub with_pointer : Word → (Ptr → Next) → Next
+abbrev pub with_pointer : Word → (Ptr → NextStep) → NextStep
 with_pointer (Int n) go = Trapped Unreachable
 with_pointer (Address p) go = go p
 
-abbrev pub with_result : Option ℕ → (ℕ → Next) → Next
+abbrev pub with_result : Option ℕ → (ℕ → NextStep) → NextStep
 with_result None go = Trapped Unreachable
 with_result (Some n) go = go n
 
@@ -93,25 +93,25 @@ code_on c x word = record c { at = next_place c.at; registers = assigned c.regis
 abbrev pub code_past : Code → Code
 code_past c = record c { at = next_place c.at }
 
-abbrev pub with_frames : Thread → List Frame → Thread
+abbrev pub with_frames : ThreadState → List Frame → ThreadState
 with_frames t fs = record t { frames = fs }
 
-abbrev pub goes_on : Thread → Frame → List Frame → Option Name → Word → Thread
+abbrev pub goes_on : ThreadState → Frame → List Frame → Option Name → Word → ThreadState
 goes_on t f rest x word = with_frames t (record f { code = code_on f.code x word } ∷ rest)
 
-abbrev pub goes_past : Thread → Frame → List Frame → Thread
+abbrev pub goes_past : ThreadState → Frame → List Frame → ThreadState
 goes_past t f rest = with_frames t (record f { code = code_past f.code } ∷ rest)
 
-abbrev pub to_block : Thread → Frame → List Frame → Option ℕ → Next
+abbrev pub to_block : ThreadState → Frame → List Frame → Option ℕ → NextStep
 to_block t f rest None = Trapped Unreachable
 to_block t f rest (Some b) = Local (with_frames t (record f { code = record f.code { at = record { function = f.code.at.function; block = b; index = 0 } } } ∷ rest))
 
 -- an access to a stack block is the thread's own, every other one is an event
-abbrev pub loads : Thread → Frame → List Frame → Option Name → Cell → Where → Next
+abbrev pub loads : ThreadState → Frame → List Frame → Option Name → Cell → Where → NextStep
 loads t f rest x cell (InStack spot offset) = with_found (load_own (find_in (f ∷ rest) spot) offset cell) (λ word. Local (goes_on t f rest x word))
 loads t f rest x cell (Elsewhere p) = Pending (Does (Loads p cell))
 
-abbrev pub stores : Thread → Frame → List Frame → Cell → Word → Where → Next
+abbrev pub stores : ThreadState → Frame → List Frame → Cell → Word → Where → NextStep
 stores t f rest cell word (InStack spot offset) = with_found (store_own (find_in (f ∷ rest) spot) offset cell word) (λ bytes. Local (with_frames t (put_in spot bytes (record f { code = code_past f.code } ∷ rest))))
 stores t f rest cell word (Elsewhere p) = Pending (Does (Stores p cell (given_of word)))
 
@@ -126,18 +126,18 @@ abbrev pub callee_of : Value → Callee
 callee_of (GlobalValue x) = if bytes_eq x target_init then CallsInit else if bytes_eq x target_deinit then CallsDeinit else CallsOther
 callee_of _ = CallsOther
 
-abbrev pub next_call : Thread → Frame → List Frame → Option Name → Callee → Next
+abbrev pub next_call : ThreadState → Frame → List Frame → Option Name → Callee → NextStep
 next_call t f rest x CallsInit = Local (goes_on t f rest x (Int t.answers.init))
 next_call t f rest x CallsDeinit = Pending Deinit
 next_call t f rest x CallsOther = Trapped Unreachable
 
-abbrev pub next_return : List Frame → Next
+abbrev pub next_return : List Frame → NextStep
 next_return [] = Pending Leaves
 next_return (f ∷ rest) = Trapped Unreachable
 
 -- ---- the instructions
 
-abbrev pub next_kind : Module → Thread → Frame → List Frame → Option Name → Kind → Next
+abbrev pub next_kind : Module → ThreadState → Frame → List Frame → Option Name → Kind → NextStep
 next_kind m t f rest x (Bin op flags ty a b) =
     with_found (value_word f.code.registers a) (λ v. with_number v (λ i. with_found (value_word f.code.registers b) (λ w. with_number w (λ j.
     with_result (computed op (width_of ty) i j) (λ n. Local (goes_on t f rest x (Int n)))))))
@@ -155,17 +155,17 @@ next_kind m t f rest x (CondBr c then_to else_to) =
 next_kind m t f rest x (Ret None) = next_return rest
 next_kind m t f rest x _ = Trapped Unreachable
 
-abbrev pub next_inst : Module → Thread → Frame → List Frame → Option Inst → Next
+abbrev pub next_inst : Module → ThreadState → Frame → List Frame → Option Inst → NextStep
 next_inst m t f rest None = Trapped Unreachable
 next_inst m t f rest (Some i) = next_kind m t f rest i.result i.kind
 
-abbrev pub next_frames : Module → Thread → List Frame → Next
+abbrev pub next_frames : Module → ThreadState → List Frame → NextStep
 next_frames m t [] = Done
 next_frames m t (f ∷ rest) = next_inst m t f rest (inst_at m f.code.at)
 
 -- what a thread does next
-abbrev pub NextOf : Module → Thread → Next
-NextOf m t = next_frames m t t.frames
+abbrev pub Next : Module → ThreadState → NextStep
+Next m t = next_frames m t t.frames
 
 -- ---- behind an event
 
@@ -174,12 +174,12 @@ result_of None = None
 result_of (Some i) = i.result
 
 -- goes on behind the event with the word that answers it, where one does
-abbrev pub resumed_frames : Module → Thread → List Frame → Option Word → Thread
+abbrev pub resumed_frames : Module → ThreadState → List Frame → Option Word → ThreadState
 resumed_frames m t [] answer = t
 resumed_frames m t (f ∷ rest) None = goes_past t f rest
 resumed_frames m t (f ∷ rest) (Some word) = goes_on t f rest (result_of (inst_at m f.code.at)) word
 
-abbrev pub resumed : Module → Thread → Option Word → Thread
+abbrev pub resumed : Module → ThreadState → Option Word → ThreadState
 resumed m t answer = resumed_frames m t t.frames answer
 
 -- ---- where a thread stands
@@ -193,5 +193,5 @@ frames_line m [] = 0
 frames_line m (f ∷ rest) = line_of (inst_at m f.code.at)
 
 -- the line of the instruction whose step is next
-abbrev pub line_at : Module → Thread → ℕ
+abbrev pub line_at : Module → ThreadState → ℕ
 line_at m t = frames_line m t.frames

@@ -52,7 +52,7 @@ pub record Answers : Type 0 where
   pub spmd : ℕ
 
 -- its number in the names of its stack blocks, how many of them it has made, and its calls, the innermost first
-pub record Thread : Type 0 where
+pub record ThreadState : Type 0 where
   pub own : ℕ
   pub counter : ℕ
   pub frames : List Frame

@@ -1,7 +1,7 @@
 //! The source meaning: what a module of target regions does, by its source alone. One main thread runs the kernel;
 //! no wrapper, work slot or machine thread occurs in it (OpenMP 5.1, "The Execution Model").
 //!
-//! `specs/Source.antt` has the definitions.
+//! `specs/SourceState.antt` has the definitions.
 #![tactic(auto)]
 
 /// What makes the next step: the main thread, or the region thread with this number, from 0.
@@ -14,10 +14,10 @@ pub enum Choice {
 ghost use Rattle.std.specs.Prelude.{◌≡◌, ◌++◌, List};
 ghost use Rattle.ir_core.specs.declared.module.Module.{Module};
 ghost use Rattle.mem_model.specs.Runs.{run, then_run};
-ghost use Rattle.source_model.specs.Source.{Source, source_step};
+ghost use Rattle.source_model.specs.Source.{SourceState, SourceStep};
 ghost use Rattle.source_model.specs.declared.Choice.{Choice as TheChoice};
 
 /// A run of a schedule cut in two is the run of the second part from the state after the first.
 pub fn run_in_two()
-    ensures { (m : Module) (first second : List TheChoice) (s : Source) → run (source_step m) (first ++ second) s ≡ then_run (run (source_step m) first s) (run (source_step m) second) }
+    ensures { (m : Module) (first second : List TheChoice) (s : SourceState) → run (SourceStep m) (first ++ second) s ≡ then_run (run (SourceStep m) first s) (run (SourceStep m) second) }
 {}

@@ -18,11 +18,11 @@ use Rattle.mem_model.specs.declared.step.End.{End}
 use Rattle.mem_model.specs.declared.step.End.TheVariants.{Running, Ended, Stuck, Trapped as TrappedEnd}
 use Rattle.mem_model.specs.declared.step.Trap.{Trap}
 use Rattle.mem_model.specs.Memory.{Memory, with_block}
-use Rattle.mem_model.specs.Thread.{Answers, Thread}
+use Rattle.mem_model.specs.Thread.{Answers, ThreadState}
 use Rattle.mem_model.specs.Code.{function_place}
-use Rattle.mem_model.specs.Next.{Event, Does, Deinit, Leaves, Next, Local, Pending, Done, Trapped, NextOf, resumed, line_at}
+use Rattle.mem_model.specs.Next.{Event, Does, Deinit, Leaves, NextStep, Local, Pending, Done, Trapped, Next, resumed, line_at}
 use Rattle.mem_model.specs.Do.{Common, Effect, Do}
-use Rattle.mem_model.specs.Runs.{Comes}
+use Rattle.mem_model.specs.Runs.{run, Comes}
 use Rattle.mem_model.specs.Launching.{first_thread, first_memory, first_common, Outcome, outcome_of}
 use Rattle.team_model.specs.declared.Pair.{Pair}
 use Rattle.team_model.specs.declared.Stand.{Stand}
@@ -31,7 +31,7 @@ use Rattle.team_model.specs.declared.Trapping.{Trapping}
 
 -- what machine threads share: what is common, with the capture area as a block of its memory; how many heap blocks were made;
 -- how each thread stands; the work slot, which holds the place of a published wrapper or null; and the trap that has ended the run
-pub record Shared : Type 0 where
+pub record TeamShared : Type 0 where
   pub common : Common
   pub heaps : ℕ
   pub stands : List Stand
@@ -39,8 +39,8 @@ pub record Shared : Type 0 where
   pub trapped : Option Trapping
 
 pub record Team : Type 0 where
-  pub shared : Shared
-  pub threads : List Thread
+  pub shared : TeamShared
+  pub threads : List ThreadState
 
 -- ---- the mode of a kernel: its init call's
 
@@ -95,19 +95,19 @@ abbrev pub spmd_answers : Launch → ℕ → Answers
 spmd_answers l t = record { init = 2 ^ 32 - 1; number = t; count = l.threads; level = 0; spmd = 1 }
 
 -- n threads from number t on
-abbrev pub threads_from : Module → Launch → (ℕ → Answers) → ℕ → ℕ → List Thread
+abbrev pub threads_from : Module → Launch → (ℕ → Answers) → ℕ → ℕ → List ThreadState
 threads_from m l answers t zero = []
 threads_from m l answers t (suc n) = first_thread m l t (answers t) ∷ threads_from m l answers (t + 1) n
 
 -- the workers and then the main thread, or all alike
-abbrev pub first_threads : Module → Launch → Bool → List Thread
+abbrev pub first_threads : Module → Launch → Bool → List ThreadState
 first_threads m l true = threads_from m l (spmd_answers l) 0 l.threads
 first_threads m l false = threads_from m l (worker_answers l) 0 l.threads ++ first_thread m l l.threads main_answers ∷ []
 
-abbrev pub runs_at_first : Thread → Stand
+abbrev pub runs_at_first : ThreadState → Stand
 runs_at_first t = Runs
 
-abbrev pub started : Launch → List Thread → Team
+abbrev pub started : Launch → List ThreadState → Team
 started l threads = record {
   shared = record { common = first_common (with_captures (first_memory l)); heaps = 0; stands = map runs_at_first threads; slot = None; trapped = None };
   threads = threads;
@@ -118,34 +118,34 @@ team_start m l = started l (first_threads m l (is_spmd m l))
 
 -- ---- one step of thread n, which changes the state of no other thread
 
-abbrev pub with_thread : Team → ℕ → Thread → Team
+abbrev pub with_thread : Team → ℕ → ThreadState → Team
 with_thread s n t = record s { threads = slice_set s.threads n t }
 
-abbrev pub traps : Module → Team → ℕ → Thread → Trap → Team
+abbrev pub traps : Module → Team → ℕ → ThreadState → Trap → Team
 traps m s n t trap = record s { shared = record s.shared { trapped = Some (record { thread = n; line = line_at m t; trap = trap }) } }
 
-abbrev pub acts : Module → Team → ℕ → Thread → Result Effect Trap → Team
+abbrev pub acts : Module → Team → ℕ → ThreadState → Result Effect Trap → Team
 acts m s n t (Err trap) = traps m s n t trap
 acts m s n t (Ok effect) = record { shared = record s.shared { common = effect.common }; threads = slice_set s.threads n (resumed m t effect.answer) }
 
 -- in generic mode __kmpc_target_deinit sets the work slot to null, in SPMD mode it does nothing
-abbrev pub slot_after_deinit : Thread → Option ℕ → Option ℕ
+abbrev pub slot_after_deinit : ThreadState → Option ℕ → Option ℕ
 slot_after_deinit t slot = if t.answers.spmd == 1 then slot else None
 
-abbrev pub happens : Module → Team → ℕ → Thread → Event → Team
+abbrev pub happens : Module → Team → ℕ → ThreadState → Event → Team
 happens m s n t (Does action) = acts m s n t (Do action s.shared.common)
 happens m s n t Deinit = record { shared = record s.shared { slot = slot_after_deinit t s.shared.slot }; threads = slice_set s.threads n (resumed m t None) }
 happens m s n t Leaves = record s { shared = record s.shared { stands = slice_set s.shared.stands n Gone } }
 
-abbrev pub by_next : Module → Team → ℕ → Thread → Next → Option Team
+abbrev pub by_next : Module → Team → ℕ → ThreadState → NextStep → Option Team
 by_next m s n t (Local u) = Some (with_thread s n u)
 by_next m s n t (Pending event) = Some (happens m s n t event)
 by_next m s n t Done = None
 by_next m s n t (Trapped trap) = Some (traps m s n t trap)
 
-abbrev pub by_thread : Module → Team → ℕ → Option Thread → Option Team
+abbrev pub by_thread : Module → Team → ℕ → Option ThreadState → Option Team
 by_thread m s n None = None
-by_thread m s n (Some t) = by_next m s n t (NextOf m t)
+by_thread m s n (Some t) = by_next m s n t (Next m t)
 
 abbrev pub by_stand : Module → Team → ℕ → Option Stand → Option Team
 by_stand m s n (Some Runs) = by_thread m s n (slice_get s.threads n)
@@ -156,8 +156,8 @@ unless_trapped None go = go
 unless_trapped (Some t) go = None
 
 -- the state after a step of a machine thread; none where there is no such thread, it has ended or waits, or the run has trapped
-abbrev pub team_step : Module → Team → ℕ → Option Team
-team_step m s n = unless_trapped s.shared.trapped (by_stand m s n (slice_get s.shared.stands n))
+abbrev pub TeamStep : Module → Team → ℕ → Option Team
+TeamStep m s n = unless_trapped s.shared.trapped (by_stand m s n (slice_get s.shared.stands n))
 
 -- ---- ends and runs
 
@@ -183,8 +183,13 @@ team_end s = end_by s.shared.trapped (list_all is_gone s.shared.stands) (list_al
 abbrev pub team_outcome : Module → Launch → Team → Outcome
 team_outcome source l s = outcome_of source l s.shared.common
 
+-- the state after a schedule, a list of machine threads; none where one isn't ready
+abbrev pub TeamRun : Module → Launch → List ℕ → Option Team
+TeamRun m l schedule = run (TeamStep m) schedule (team_start m l)
+
+-- what the schedules of an optimised module come to
 abbrev pub TeamSystem : Module → Module → Launch → ℕ → End → Outcome → Type 0
-TeamSystem source out l = Comes (team_step out) (team_start out l) team_end (team_outcome source l)
+TeamSystem source out l = Comes (TeamStep out) (team_start out l) team_end (team_outcome source l)
 
 -- ---- schedules as pairs
 

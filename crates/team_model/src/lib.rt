@@ -45,9 +45,9 @@ pub struct Trapping {
 ghost use Rattle.std.specs.Prelude.{◌≡◌, ◌++◌, List, ℕ};
 ghost use Rattle.ir_core.specs.declared.module.Module.{Module};
 ghost use Rattle.mem_model.specs.Runs.{run, then_run};
-ghost use Rattle.team_model.specs.Team.{Team, team_step};
+ghost use Rattle.team_model.specs.Team.{Team, TeamStep};
 
 /// A run of a schedule cut in two is the run of the second part from the state after the first.
 pub fn run_in_two()
-    ensures { (m : Module) (first second : List ℕ) (s : Team) → run (team_step m) (first ++ second) s ≡ then_run (run (team_step m) first s) (run (team_step m) second) }
+    ensures { (m : Module) (first second : List ℕ) (s : Team) → run (TeamStep m) (first ++ second) s ≡ then_run (run (TeamStep m) first s) (run (TeamStep m) second) }
 {}

@@ -1,0 +1,13 @@
+pub mod Stored
+pub mod SourceRun
+pub mod TeamRun
+pub mod SameNext
+pub mod AlikeMemory
+pub mod KernelShape
+pub mod ListPlaces
+pub mod Workers
+pub mod Relation
+pub mod EachStep
+pub mod Start
+pub mod Cover
+pub mod Refining

@@ -1,0 +1,165 @@
+-- What ties a source state to a team state: the same main thread, memories that are alike, and workers on their way out.
+use Rattle.std.proofs.Common.{◌≡◌, ◌≢◌, ℕ, zero, suc, ◌+◌, ◌-◌, ◌<◌, ◌≤◌, List, [], length, Bool, true, false, Option, Some, None, refl, sym, ◌∙◌, arith, length-set}
+use Rattle.std.specs.Prelude.{slice_get, slice_set}
+use Rattle.std.specs.List.{list_all}
+use Rattle.std.proofs.lemmas.Option.{slice_get_within}
+use Rattle.ir_core.specs.declared.module.Module.{Module}
+use Rattle.ir_core.specs.declared.module.Function.{Function}
+use Rattle.mem_model.specs.declared.launch.Launch.{Launch}
+use Rattle.mem_model.specs.Memory.{Memory}
+use Rattle.mem_model.specs.Thread.{ThreadState}
+use Rattle.source_model.specs.Source.{SourceState}
+use Rattle.team_model.specs.declared.Stand.{Stand}
+use Rattle.team_model.specs.declared.Stand.TheVariants.{Runs, Waits, Ended as Gone}
+use Rattle.team_model.specs.Team.{Team}
+use Rattle.refine_laws.proofs.AlikeMemory.{Alike}
+use Rattle.refine_laws.proofs.ListPlaces.{set_here, set_else, all_after_set, total_of, total_falls, both_set, first_set}
+use Rattle.refine_laws.proofs.KernelShape.{KernelShape}
+use Rattle.refine_laws.proofs.Workers.{worker}
+
+abbrev pub stand_of : Bool → Stand
+stand_of true = Gone
+stand_of false = Runs
+
+-- a thread that doesn't wait
+abbrev pub is_free : Stand → Bool
+is_free (Waits b) = false
+is_free _ = true
+
+-- a worker has four steps
+abbrev pub steps_left : ℕ → ℕ
+steps_left j = 4 - j
+
+-- how a worker stands after j steps
+abbrev pub worker_stand : ℕ → Stand
+worker_stand (suc (suc (suc (suc j)))) = Gone
+worker_stand _ = Runs
+
+goes_on_running : (j : ℕ) → j < 3 → worker_stand (suc j) ≡ worker_stand j
+goes_on_running zero h = refl
+goes_on_running (suc zero) h = refl
+goes_on_running (suc (suc zero)) h = refl
+goes_on_running (suc (suc (suc j))) h = absurd (omega arith)
+
+-- the source behind a step of its main thread
+abbrev pub source_moved : SourceState → ThreadState → Memory → SourceState
+source_moved s v a = record s { common = record s.common { memory = a }; main = v }
+
+-- the team behind a step of one thread
+abbrev pub team_moved : Team → ℕ → ThreadState → Memory → Option ℕ → Team
+team_moved t d v b slot = record { shared = record t.shared { common = record t.shared.common { memory = b }; slot = slot }; threads = slice_set t.threads d v }
+
+-- the team when one thread has left
+abbrev pub team_left : Team → ℕ → Team
+team_left t d = record t { shared = record t.shared { stands = slice_set t.shared.stands d Gone } }
+
+module _ (m : Module) (l : Launch) (k : ℕ) (g : Function) (there : slice_get m.functions k ≡ Some g) (sh : KernelShape g.blocks) where
+  pub record Tied (s : SourceState) (t : Team) (n : ℕ) : Type 0 where
+    pub memory : Alike s.common.memory t.shared.common.memory
+    pub prints : t.shared.common.prints ≡ s.common.prints
+    pub main : slice_get t.threads l.threads ≡ Some s.main
+    pub main_stand : slice_get t.shared.stands l.threads ≡ Some (stand_of s.returned)
+    pub no_region : s.region ≡ []
+    pub source_goes : s.trapped ≡ None
+    pub team_goes : t.shared.trapped ≡ None
+    pub all_free : list_all is_free t.shared.stands ≡ true
+    pub count : length t.threads ≡ suc l.threads
+    -- how far each worker has come
+    pub stages : List ℕ
+    pub stage_count : length stages ≡ l.threads
+    pub stage_sum : n ≡ total_of steps_left stages
+    pub workers : (i j : ℕ) → slice_get stages i ≡ Some j → slice_get t.threads i ≡ Some (worker m l k g there sh i j)
+    pub worker_stands : (i j : ℕ) → slice_get stages i ≡ Some j → slice_get t.shared.stands i ≡ Some (worker_stand j)
+
+  -- a worker is not the main thread
+  pub is_not_main : (s : SourceState) (t : Team) (n : ℕ) (r : Tied s t n) (i j : ℕ) → slice_get r.stages i ≡ Some j → l.threads ≢ i
+  is_not_main s t n r i j h e = let a = slice_get_within r.stages i j h in let b = r.stage_count in absurd (omega arith)
+
+  pub main_is_not : (s : SourceState) (t : Team) (n : ℕ) (r : Tied s t n) (i j : ℕ) → slice_get r.stages i ≡ Some j → i ≢ l.threads
+  main_is_not s t n r i j h e = is_not_main s t n r i j h (sym e)
+
+  -- the main thread makes a step
+  pub main_moves : (s : SourceState) (t : Team) (n : ℕ) → Tied s t n → (v : ThreadState) (a b : Memory) (slot : Option ℕ) → Alike a b → Tied (source_moved s v a) (team_moved t l.threads v b slot) n
+  main_moves s t n r v a b slot alike = record {
+    memory = alike;
+    prints = r.prints;
+    main = set_here t.threads l.threads v s.main r.main;
+    main_stand = r.main_stand;
+    no_region = r.no_region;
+    source_goes = r.source_goes;
+    team_goes = r.team_goes;
+    all_free = r.all_free;
+    count = length-set t.threads l.threads v ∙ r.count;
+    stages = r.stages;
+    stage_count = r.stage_count;
+    stage_sum = r.stage_sum;
+    workers = λ i j h. set_else t.threads l.threads i v (main_is_not s t n r i j h) ∙ r.workers i j h;
+    worker_stands = r.worker_stands;
+  }
+
+  -- the main thread leaves
+  pub main_leaves : (s : SourceState) (t : Team) (n : ℕ) → Tied s t n → Tied (record s { returned = true }) (team_left t l.threads) n
+  main_leaves s t n r = record {
+    memory = r.memory;
+    prints = r.prints;
+    main = r.main;
+    main_stand = set_here t.shared.stands l.threads Gone _ r.main_stand;
+    no_region = r.no_region;
+    source_goes = r.source_goes;
+    team_goes = r.team_goes;
+    all_free = all_after_set is_free t.shared.stands l.threads Gone refl r.all_free;
+    count = r.count;
+    stages = r.stages;
+    stage_count = r.stage_count;
+    stage_sum = r.stage_sum;
+    workers = r.workers;
+    worker_stands = λ i j h. set_else t.shared.stands l.threads i Gone (main_is_not s t n r i j h) ∙ r.worker_stands i j h;
+  }
+
+  -- a worker makes a step on its way
+  pub worker_moves : (s : SourceState) (t : Team) (n : ℕ) (r : Tied s t n) (d j : ℕ) → slice_get r.stages d ≡ Some j → j < 3 →
+      (after : ℕ) × (1 + after ≤ n) × Tied s (record t { threads = slice_set t.threads d (worker m l k g there sh d (suc j)) }) after
+  worker_moves s t n r d j h low =
+      let paid = total_falls steps_left r.stages d (suc j) j h (omega arith) in (
+        total_of steps_left (slice_set r.stages d (suc j)),
+        omega (arith, r.stage_sum),
+        record {
+          memory = r.memory;
+          prints = r.prints;
+          main = set_else t.threads d l.threads _ (is_not_main s t n r d j h) ∙ r.main;
+          main_stand = r.main_stand;
+          no_region = r.no_region;
+          source_goes = r.source_goes;
+          team_goes = r.team_goes;
+          all_free = r.all_free;
+          count = length-set t.threads d _ ∙ r.count;
+          stages = slice_set r.stages d (suc j);
+          stage_count = length-set r.stages d (suc j) ∙ r.stage_count;
+          stage_sum = refl;
+          workers = both_set r.stages t.threads (worker m l k g there sh) r.workers d (suc j) j h;
+          worker_stands = first_set r.stages t.shared.stands (λ _ j. worker_stand j) r.worker_stands d (suc j) j h (goes_on_running j low);
+        },
+      )
+
+  pub worker_leaves : (s : SourceState) (t : Team) (n : ℕ) (r : Tied s t n) (d : ℕ) → slice_get r.stages d ≡ Some 3 → (after : ℕ) × (1 + after ≤ n) × Tied s (team_left t d) after
+  worker_leaves s t n r d h =
+      let paid = total_falls steps_left r.stages d 4 3 h (omega arith) in (
+        total_of steps_left (slice_set r.stages d 4),
+        omega (arith, r.stage_sum),
+        record {
+          memory = r.memory;
+          prints = r.prints;
+          main = r.main;
+          main_stand = set_else t.shared.stands d l.threads Gone (is_not_main s t n r d 3 h) ∙ r.main_stand;
+          no_region = r.no_region;
+          source_goes = r.source_goes;
+          team_goes = r.team_goes;
+          all_free = all_after_set is_free t.shared.stands d Gone refl r.all_free;
+          count = r.count;
+          stages = slice_set r.stages d 4;
+          stage_count = length-set r.stages d 4 ∙ r.stage_count;
+          stage_sum = refl;
+          workers = first_set r.stages t.threads (worker m l k g there sh) r.workers d 4 3 h refl;
+          worker_stands = both_set r.stages t.shared.stands (λ _ j. worker_stand j) r.worker_stands d 4 3 h;
+        },
+      )
