@@ -10,3 +10,4 @@ pub mod Runs
 pub mod Bound
 pub mod Launching
 pub mod MemoryLaws
+pub mod Answers

@@ -19,7 +19,7 @@ use Rattle.mem_model.specs.declared.memory.Cell.TheVariants.{Int as IntCell, Ptr
 use Rattle.mem_model.specs.declared.step.Trap.{Trap}
 use Rattle.mem_model.specs.declared.step.Trap.TheVariants.{Unassigned, Unreachable, NoBlock}
 use Rattle.mem_model.specs.Memory.{Given}
-use Rattle.mem_model.specs.Eval.{computed, compared}
+use Rattle.mem_model.specs.Eval.{Eval, compared}
 use Rattle.mem_model.specs.Thread.{Name, Place, Registers, Code, Frame, ThreadState, Where, InStack, Elsewhere, where_is, given_of, assigned, find_in, put_in, load_own, store_own}
 use Rattle.mem_model.specs.Code.{inst_at, labels, place_in}
 
@@ -140,10 +140,10 @@ next_return (f ∷ rest) = Trapped Unreachable
 abbrev pub next_kind : Module → ThreadState → Frame → List Frame → Option Name → Kind → NextStep
 next_kind m t f rest x (Bin op flags ty a b) =
     with_found (value_word f.code.registers a) (λ v. with_number v (λ i. with_found (value_word f.code.registers b) (λ w. with_number w (λ j.
-    with_result (computed op (width_of ty) i j) (λ n. Local (goes_on t f rest x (Int n)))))))
+    with_found (Eval op flags (width_of ty) i j) (λ n. Local (goes_on t f rest x (Int n)))))))
 next_kind m t f rest x (ICmp pred ty a b) =
     with_found (value_word f.code.registers a) (λ v. with_found (value_word f.code.registers b) (λ w.
-    with_result (compared pred v w) (λ n. Local (goes_on t f rest x (Int n)))))
+    with_result (compared pred (width_of ty) v w) (λ n. Local (goes_on t f rest x (Int n)))))
 next_kind m t f rest x (LoadInst ty at order align) =
     with_found (value_word f.code.registers at.value) (λ v. with_pointer v (λ p. loads t f rest x (cell_of ty) (where_is p)))
 next_kind m t f rest x (StoreInst value at order align) =
