@@ -6,3 +6,4 @@ pub mod WordLaws
 pub mod StoreLaws
 pub mod BlockLaws
 pub mod PointerLaws
+pub mod Widths

@@ -1,5 +1,5 @@
 -- What a call that changes a memory answers, and what the memory is behind it.
-use Rattle.std.specs.Prelude.{◌≡◌, ℕ, ◌<◌, Result, Ok, Err, Option, Some, None, IsOk}
+use Rattle.std.specs.Prelude.{◌≡◌, ℕ, ◌<◌, Result, Ok, Err, IsOk}
 use Rattle.std.specs.FinMap as fin
 use Rattle.ir_core.specs.declared.answers.Or.{Or}
 use Rattle.ir_core.specs.declared.answers.Or.TheVariants.{Refused, Memory as WantOfMemory}
@@ -10,7 +10,7 @@ use Rattle.mem_model.specs.declared.memory.Word.TheVariants.{Int, Ptr as Address
 use Rattle.mem_model.specs.declared.memory.Cell.{Cell}
 use Rattle.mem_model.specs.declared.memory.Cell.TheVariants.{Int as IntCell, Ptr as PtrCell}
 use Rattle.mem_model.specs.declared.step.Trap.{Trap}
-use Rattle.mem_model.specs.Memory.{Memory, Header, header_size}
+use Rattle.mem_model.specs.Memory.{Memory, header_size}
 use Rattle.ir_core.specs.FirstForm.{is_width}
 use Rattle.std.specs.Prelude.{◌^◌, true}
 

@@ -4,12 +4,14 @@
 //! Both meanings of a module, that of its source and that of the team that runs it, stand on this crate.
 #![tactic(auto)]
 
+mod arithmetic;
 mod covering;
 mod launch;
 mod laws;
 mod memory;
 mod step;
 
+pub use arithmetic::{compare, eval, sign_extend};
 pub use covering::{Behaves, covers_chain, covers_itself};
 pub use launch::{Arg, Launch, Shown};
 pub use laws::{
