@@ -1,9 +1,14 @@
--- Look-ups in a module: instructions by place, blocks by name.
+-- Look-ups in a module: instructions by place, blocks, functions and globals by name, and the phis of a block.
 use Rattle.std.specs.Prelude.{ℕ, ◌+◌, List, [], ◌∷◌, map, Option, Some, None, slice_get, if◌then◌else◌}
 use Rattle.std.specs.Str.{bytes_eq}
 use Rattle.ir_core.specs.declared.module.Module.{Module}
 use Rattle.ir_core.specs.declared.module.Function.{Function}
 use Rattle.ir_core.specs.declared.module.Block.{Block}
+use Rattle.ir_core.specs.declared.module.Global.{Global}
+use Rattle.ir_core.specs.declared.instructions.Value.{Value}
+use Rattle.ir_core.specs.declared.instructions.Edge.{Edge}
+use Rattle.ir_core.specs.declared.instructions.Kind.{Kind}
+use Rattle.ir_core.specs.declared.instructions.Kind.TheVariants.{Phi}
 use Rattle.ir_core.specs.declared.instructions.Inst.{Inst}
 use Rattle.mem_model.specs.Thread.{Name, Place}
 
@@ -44,3 +49,46 @@ function_name f = f.name
 -- the place of a function in the module
 abbrev pub function_place : Module → Name → Option ℕ
 function_place m x = place_in (map function_name m.functions) x
+
+abbrev pub global_name : Global → Name
+global_name g = g.name
+
+-- the place of a global in the module
+abbrev pub global_place : Module → Name → Option ℕ
+global_place m x = place_in (map global_name m.globals) x
+
+-- ---- phis
+
+-- a phi: its result, and the operand for each edge
+pub record PhiNode : Type 0 where
+  pub result : Option Name
+  pub edges : List Edge
+
+abbrev pub with_phi : Option Name → Kind → List PhiNode → List PhiNode
+with_phi x (Phi ty edges) phis = record { result = x; edges = edges } ∷ phis
+with_phi x _ phis = []
+
+-- the phis at the front of a block
+abbrev pub leading_phis : List Inst → List PhiNode
+leading_phis [] = []
+leading_phis (i ∷ is) = with_phi i.result i.kind (leading_phis is)
+
+abbrev pub phis_in : Option Block → List PhiNode
+phis_in None = []
+phis_in (Some b) = leading_phis b.insts
+
+abbrev pub phis_at : Module → ℕ → ℕ → List PhiNode
+phis_at m f b = phis_in (block_in (slice_get m.functions f) b)
+
+-- the operand for the edge from a block
+abbrev pub edge_from : List Edge → Name → Option Value
+edge_from [] x = None
+edge_from (e ∷ es) x = if bytes_eq e.block x then Some e.value else edge_from es x
+
+abbrev pub name_in : Option Block → Name
+name_in None = []
+name_in (Some b) = b.name
+
+-- the name of the block at a place
+abbrev pub label_at : Module → Place → Name
+label_at m p = name_in (block_in (slice_get m.functions p.function) p.block)

@@ -4,7 +4,9 @@ pub mod Memory
 pub mod Eval
 pub mod Thread
 pub mod Code
+pub mod Values
 pub mod Next
+pub mod Update
 pub mod Do
 pub mod Runs
 pub mod Bound

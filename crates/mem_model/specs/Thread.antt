@@ -1,6 +1,7 @@
 -- One thread: its calls, its registers, its own stack, and what the entry points answer to it.
 use Rattle.std.specs.Prelude.{ℕ, ℤ, ◌+◌, List, [], ◌∷◌, ◌++◌, length, map, take, drop, Bool, cond, ◌&&◌, Option, Some, None, Result, Ok, Err, ◌==◌}
 use Rattle.std.specs.Str.{bytes_eq}
+use Rattle.ir_core.specs.declared.module.Param.{Param}
 use Rattle.mem_model.specs.declared.memory.BlockName.TheVariants.{Arg, Global, Heap, Stack, Captures, Code as CodeBlock}
 use Rattle.mem_model.specs.declared.memory.Ptr.{Ptr}
 use Rattle.mem_model.specs.declared.memory.Ptr.TheVariants.{Num as Number, At}
@@ -66,6 +67,11 @@ no_registers = λ x. None
 abbrev pub assigned : Registers → Option Name → Word → Registers
 assigned r None word = r
 assigned r (Some x) word = λ y. cond (bytes_eq y x) (Some word) (r y)
+
+-- the words of a call's operands in the registers of its parameters
+abbrev pub bound : List Param → List Word → Registers
+bound (p ∷ ps) (word ∷ words) = λ x. cond (bytes_eq x p.name) (Some word) (bound ps words x)
+bound _ _ = no_registers
 
 -- ---- the own stack
 
