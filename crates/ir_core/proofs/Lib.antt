@@ -2,3 +2,4 @@ pub mod Lexing
 pub mod Off
 pub mod Printed
 pub mod Spelled
+pub mod EntryPoints
