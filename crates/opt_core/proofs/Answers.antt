@@ -1,5 +1,5 @@
 -- Replies, and what is written of them.
-use Rattle.std.proofs.Common.{◌≡◌, ◌⊎◌, ℕ, ◌<◌, List, [], ◌∷◌, ◌++◌, Option, Some, None, Result, Ok, Err, IfOk, IfErr, IfSome, refl, sym, ap, ◌∙◌, subst, arith, inl, inr, codes}
+use Rattle.std.proofs.Common.{◌≡◌, ◌⊎◌, ℕ, ◌<◌, List, [], Option, Some, None, Result, Ok, Err, IfOk, IfErr, refl, sym, subst, arith, inl, inr, codes}
 use Rattle.std.proofs.lemmas.List.{append-nil}
 use Rattle.ir_core.specs.declared.module.Module.{Module}
 use Rattle.ir_core.specs.declared.answers.Or.{Or}
@@ -12,11 +12,12 @@ use Rattle.ir_core.specs.Refusals.{IsReadRefusal}
 use Rattle.ir_core.specs.Text.{Text}
 use Rattle.ir_core.specs.MachineOff.{machine_off, Remarks}
 use Rattle.ir_core.specs.Notes.{remarks_text}
+use Rattle.refine_laws.proofs.Refining.{machine_off_refines}
 use Rattle.ir_read.proofs.Texts.{one_text}
 use Rattle.ir_check.specs.Refusal.{IsCheckRefusal}
 use Rattle.opt_core.specs.declared.reply.Reply.{Reply}
 use Rattle.opt_core.specs.Outside.{Grows, GrowsByFront}
-use Rattle.opt_core.specs.Answer.{Accepts, IsNotAccepted, IsTextReply, IsAnswer, IsReply, IsFailure, IsInputFailed, HasRisen, IsWritten, IsTold}
+use Rattle.opt_core.specs.Answer.{Accepts, IsNotAccepted, IsTextReply, IsFailure, HasRisen, IsWritten}
 
 pub not_read : (text : List ℕ) (e : Or Refusal) → IsReadRefusal text e → IsNotAccepted text e
 not_read text (Refused r) (same, none) = (same, λ m accepts. none m accepts.0)
@@ -31,7 +32,7 @@ check_failed text m (Ok c) reads h = tt
 check_failed text m (Err e) reads h = not_checked text m e reads h
 
 pub is_optimised : (text : List ℕ) (m : Module) (result : Result Reply OutOfMemory) → Accepts text m → IfOk result (λ r. (r.status ≡ 0) × (r.out ≡ Text (machine_off m)) × (r.notes ≡ remarks_text (Remarks m))) → IfOk result (λ r. IsTextReply text r.status r.out r.notes)
-is_optimised text m (Ok r) accepts h = inl (m, accepts, h.0, h.1, h.2)
+is_optimised text m (Ok r) accepts h = inl (m, accepts, λ l fits. machine_off_refines m l accepts.1 fits, h.0, h.1, h.2)
 is_optimised text m (Err e) accepts h = tt
 
 -- ---- what is written

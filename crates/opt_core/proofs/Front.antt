@@ -1,9 +1,9 @@
 -- A text's front up to the limit and one byte spells what the text spells.
-use Rattle.std.proofs.Common.{◌≡◌, ◌⊎◌, ℕ, ◌+◌, ◌<◌, ◌≤◌, min, List, [], ◌∷◌, ◌++◌, length, take, nat_lt, Bool, true, false, Option, Some, None, IfSome, refl, sym, ap, ◌∙◌, subst, arith, if◌then◌else◌, inl, inr, length-take}
-use Rattle.std.proofs.lemmas.List.{take_all, take-take}
+use Rattle.std.proofs.Common.{◌≡◌, ◌⊎◌, ℕ, ◌+◌, ◌<◌, ◌≤◌, min, List, [], ◌∷◌, ◌++◌, length, take, nat_lt, Bool, Option, Some, None, IfSome, refl, sym, ap, ◌∙◌, subst, arith, if◌then◌else◌, inl, inr, length-take}
+use Rattle.std.proofs.lemmas.List.{take-take}
 use Rattle.std.proofs.lemmas.Bool.{lt-ltb, le-ltb, cases_lt}
 use Rattle.ir_core.specs.declared.module.Module.{Module}
-use Rattle.ir_core.specs.Tokens.{Token, Past, Piece, Pieces, tokens_from, text_limit, has_bad, past_limit, with_past, line_at, line_ends, kept, Lexes, lexemes}
+use Rattle.ir_core.specs.Tokens.{Token, Past, Pieces, tokens_from, text_limit, has_bad, past_limit, with_past, line_ends, Lexes, lexemes}
 use Rattle.ir_core.specs.Grammar.{functions_to_end, Reads}
 use Rattle.opt_core.specs.Outside.{read_limit}
 use Rattle.opt_core.specs.Answer.{Accepts, IsTextReply, IsFileReply}
@@ -55,7 +55,7 @@ pub accepts_whole : (text : List ℕ) (m : Module) → Accepts (take read_limit 
 accepts_whole text m (reads, form) = (reads_same (take read_limit text) text m (alike text) reads, form)
 
 pub reply_whole : (text : List ℕ) (status : ℕ) (out notes : List ℕ) → IsTextReply (take read_limit text) status out notes → IsTextReply text status out notes
-reply_whole text status out notes (inl (m, accepts, s, o, n)) = inl (m, accepts_whole text m accepts, s, o, n)
+reply_whole text status out notes (inl (m, accepts, refines, s, o, n)) = inl (m, accepts_whole text m accepts, refines, s, o, n)
 reply_whole text status out notes (inr (none, s, o, n)) = inr ((λ m accepts. none m (accepts_front text m accepts)), s, o, n)
 
 -- what is replied to the bytes read is the reply to the file

@@ -13,6 +13,7 @@ use Rattle.ir_core.specs.MachineOff.{machine_off, Remarks}
 use Rattle.ir_core.specs.Text.{Text}
 use Rattle.ir_core.specs.Notes.{refusal_text, remarks_text}
 use Rattle.ir_core.specs.Refusals.{not_built}
+use Rattle.refine_laws.specs.Refines.{RefinesSource}
 use Rattle.opt_core.specs.Outside.{Rose, Grows, GrowsByFront}
 
 -- ---- words
@@ -45,9 +46,9 @@ abbrev pub IsNotAccepted : List ℕ → Or Refusal → Type 0
 IsNotAccepted text (Refused r) = (r ≡ not_built) × ((m : Module) → Accepts text m → ⊥)
 IsNotAccepted text Memory = Unit {0}
 
--- the module with its machine off, and the remark on it
+-- the module with its machine off, which refines the module as read, and the remark on it
 abbrev pub IsOptimised : List ℕ → ℕ → List ℕ → List ℕ → Type 0
-IsOptimised text status out notes = (m : Module) × Accepts text m × (status ≡ 0) × (out ≡ Text (machine_off m)) × (notes ≡ remarks_text (Remarks m))
+IsOptimised text status out notes = (m : Module) × Accepts text m × RefinesSource m (machine_off m) × (status ≡ 0) × (out ≡ Text (machine_off m)) × (notes ≡ remarks_text (Remarks m))
 
 abbrev pub IsRefused : List ℕ → ℕ → List ℕ → List ℕ → Type 0
 IsRefused text status out notes = ((m : Module) → Accepts text m → ⊥) × (status ≡ 3) × (out ≡ []) × (notes ≡ refusal_text not_built ++ codes "\n")

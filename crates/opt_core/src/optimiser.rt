@@ -1,6 +1,7 @@
 //! The optimiser. By now it switches off the machine of a kernel without a region.
 ghost use Rattle.std.specs.Prelude.{◌≡◌, IfOk};
 ghost use Rattle.ir_core.specs.FirstForm.{HasOutForm};
+ghost use Rattle.refine_laws.specs.Refines.{RefinesSource};
 ghost use Rattle.opt_core.specs.Optimised.{IsOptimisedModule};
 
 use crate::machine_off::machine_off;
@@ -16,9 +17,10 @@ pub struct Optimised {
     pub remarks: List<Remark>,
 }
 
-/// The module, optimised. It refuses nothing.
+/// The module, optimised: at every launch that fits, its team does nothing that the source may not do. It refuses nothing.
 pub fn optimise(alloc: Global, m: &Checked) -> Result<Optimised, OutOfMemory>
-    ensures { IfOk result (λ o. IsOptimisedModule m.now o) }
+    ensures module { IfOk result (λ o. IsOptimisedModule m.now o) }
+    ensures refines { IfOk result (λ o. RefinesSource m.now o.module) }
 {
     let source = m.module();
     let lines = init_lines(alloc, source)?;

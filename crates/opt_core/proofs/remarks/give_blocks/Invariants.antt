@@ -1,4 +1,4 @@
-use Rattle.std.proofs.Common.{◌≡◌, ◌++◌, map, take}
+use Rattle.std.proofs.Common.{◌≡◌, ◌++◌, take}
 use Rattle.std.specs.List.{flat_map}
 use Rattle.ir_core.specs.MachineOff.{block_init_lines}
 use Rattle.opt_core.proofs.remarks.give_blocks.Given as goal

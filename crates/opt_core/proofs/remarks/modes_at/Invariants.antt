@@ -1,5 +1,4 @@
-use Rattle.std.proofs.Common.{◌≡◌, ◌++◌, map, take}
-use Rattle.std.specs.List.{flat_map}
+use Rattle.std.proofs.Common.{◌≡◌, map, take}
 use Rattle.opt_core.specs.Optimised.{empty_mode}
 use Rattle.opt_core.proofs.remarks.modes_at.Given as goal
 

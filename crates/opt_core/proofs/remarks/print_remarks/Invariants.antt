@@ -1,4 +1,4 @@
-use Rattle.std.proofs.Common.{◌≡◌, ◌++◌, map, take}
+use Rattle.std.proofs.Common.{◌≡◌, take}
 use Rattle.std.specs.List.{flat_map}
 use Rattle.ir_core.specs.Notes.{remark_text}
 use Rattle.opt_core.proofs.remarks.print_remarks.Given as goal

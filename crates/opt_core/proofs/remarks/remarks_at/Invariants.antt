@@ -1,5 +1,4 @@
-use Rattle.std.proofs.Common.{◌≡◌, ◌++◌, map, take}
-use Rattle.std.specs.List.{flat_map}
+use Rattle.std.proofs.Common.{◌≡◌, map, take}
 use Rattle.ir_core.specs.Notes.{machine_removed}
 use Rattle.opt_core.proofs.remarks.remarks_at.Given as goal
 

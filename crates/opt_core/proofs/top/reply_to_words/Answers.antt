@@ -1,4 +1,4 @@
-use Rattle.std.proofs.Common.{◌≡◌, List, ℕ, Option, Some, IfSome, MatchOption, take, sym, subst, ap, ◌∙◌}
+use Rattle.std.proofs.Common.{◌≡◌, List, ℕ, Option, Some, IfSome, take, sym, subst}
 use Rattle.opt_core.specs.Outside.{read_limit}
 use Rattle.opt_core.specs.Answer.{path_of, texts, IsAnswer, IsTextReply}
 use Rattle.opt_core.proofs.Front.{file_reply}
