@@ -7,3 +7,4 @@ pub mod StoreLaws
 pub mod BlockLaws
 pub mod PointerLaws
 pub mod Widths
+pub mod Spelling

@@ -1,4 +1,5 @@
 pub mod Blocks
+pub mod Orders
 pub mod Words
 pub mod Memory
 pub mod Eval

@@ -88,7 +88,7 @@ fn power(exponent: u32) -> u128
 }
 
 /// What is left of a number in the width's bits.
-fn low_bits(width: u32, n: u128) -> u64
+pub(crate) fn low_bits(width: u32, n: u128) -> u64
     requires { width ≤ 64 }
     ensures { result ≡ n % 2 ^ width }
 {

@@ -5,13 +5,16 @@
 #![tactic(auto)]
 
 mod arithmetic;
+mod bytes;
 mod covering;
 mod launch;
 mod laws;
 mod memory;
+mod order;
 mod step;
 
 pub use arithmetic::{compare, eval, sign_extend};
+pub use bytes::{cell_size, number_of, place_in, read_word, write_word};
 pub use covering::{Behaves, covers_chain, covers_itself};
 pub use launch::{Arg, Launch, Shown};
 pub use laws::{
