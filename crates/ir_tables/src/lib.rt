@@ -5,3 +5,8 @@
 #![tactic(auto)]
 
 mod laid;
+mod order;
+mod table;
+mod types;
+
+pub use types::{Types, size_of};

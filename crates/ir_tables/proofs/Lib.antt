@@ -1,0 +1,6 @@
+pub mod Deeper
+pub mod Numbers
+pub mod Kept
+pub mod Tables
+pub mod Places
+pub mod Sizes
