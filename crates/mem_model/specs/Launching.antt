@@ -22,6 +22,7 @@ use Rattle.mem_model.specs.Memory.{Memory, no_blocks, with_block, block_limit, s
 use Rattle.mem_model.specs.Thread.{Registers, bound, Answers, ThreadState}
 use Rattle.mem_model.specs.Code.{function_place}
 use Rattle.mem_model.specs.Do.{Common}
+use Rattle.mem_model.specs.Globals.{with_globals}
 use Rattle.mem_model.specs.Bound.{Counted, whole_bound}
 
 -- ---- launches that fit
@@ -112,9 +113,9 @@ abbrev pub with_buffers : ℕ → List Arg → Memory → Memory
 with_buffers i [] m = m
 with_buffers i (a ∷ as_) m = with_buffers (i + 1) as_ (with_buffer i a m)
 
--- the buffers of the arguments; globals come with the layout of their types
-abbrev pub first_memory : Launch → Memory
-first_memory l = with_buffers 0 l.args no_blocks
+-- the buffers of the arguments, and the globals with their initializers
+abbrev pub first_memory : Module → Launch → Memory
+first_memory m l = with_globals m 0 m.globals (with_buffers 0 l.args no_blocks)
 
 -- nothing is printed at the start
 abbrev pub first_common : Memory → Common

@@ -11,6 +11,7 @@ pub mod Update
 pub mod Do
 pub mod Runs
 pub mod Bound
+pub mod Globals
 pub mod Launching
 pub mod MemoryLaws
 pub mod Answers
