@@ -4,3 +4,5 @@ pub mod Kept
 pub mod Tables
 pub mod Places
 pub mod Sizes
+pub mod WellFormed
+pub mod Walks
