@@ -6,3 +6,4 @@ pub mod Places
 pub mod Sizes
 pub mod WellFormed
 pub mod Walks
+pub mod Examples
