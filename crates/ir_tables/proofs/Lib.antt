@@ -4,3 +4,6 @@ pub mod Kept
 pub mod Tables
 pub mod Places
 pub mod Sizes
+pub mod WellFormed
+pub mod Walks
+pub mod Examples

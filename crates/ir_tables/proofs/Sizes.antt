@@ -17,9 +17,12 @@ module _ (types : List TypeDef) (table : Table) (right : IsTable types table) wh
   name_kept x None none = subst (AreKept None) (sym none) tt
   name_kept x (Some k) w = subst (AreKept (Some k.laid)) (sym w.1) w.2
 
+  pub names_kept : (x : List ℕ) → AreKept (known_laid table x) (named_layout (length types) types x)
+  names_kept x = name_kept x (known_of table x) (right x)
+
   -- what the table gives for a type is kept of its layout
   pub layout_kept : (ty : Ty) → AreKept (laid_of (known_laid table) ty) (layout_of types ty)
-  layout_kept = kept (known_laid table) (named_layout (length types) types) (λ x. name_kept x (known_of table x) (right x))
+  layout_kept = kept (known_laid table) (named_layout (length types) types) names_kept
 
   by_kept : (laid : Laid) (o : Option Laid) (p : Option Layout) → Some laid ≡ o → AreKept o p → IsSome p → Keeps laid (or_no_layout p)
   by_kept laid None p e k some = absurd (none-some laid (sym e))

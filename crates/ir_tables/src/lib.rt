@@ -5,8 +5,14 @@
 #![tactic(auto)]
 
 mod laid;
+mod laws;
+mod offsets;
 mod order;
 mod table;
 mod types;
 
-pub use types::{Types, size_of};
+pub use laws::{
+    array_of_structs, byte_and_word, contains_itself, field_of_third, first_item,
+    four_numbers_and_pointer, no_fields, no_such_field, one_back,
+};
+pub use types::{Types, offset_of, size_of};

@@ -79,7 +79,8 @@ impl Places {
 }
 
 impl Table {
-    fn known(&self, name: &Name) -> Option<Known>
+    /// What is known of a name.
+    pub(crate) fn known(&self, name: &Name) -> Option<Known>
         ensures { result ≡ known_of self.now name.now }
     {
         match self.known.get(self.places.place(name)?) {

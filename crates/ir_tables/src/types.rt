@@ -4,8 +4,9 @@ ghost use Rattle.std.specs.Int.{int_wrap, w64};
 ghost use Rattle.ir_core.specs.Layout.{WellFormed, Size, Offset, inner_offset};
 ghost use Rattle.ir_tables.specs.Table.{IsTable, table_parts};
 
+use crate::offsets::walk;
 use crate::order::order_of;
-use crate::table::{Places, Table, laid_of, lay_out, start, stride};
+use crate::table::{Places, Table, laid_of, lay_out, stride};
 use ir_core::{Copies, List, OutOfMemory, Ty, TypeDef};
 use std::alloc::Global;
 use std::marker::Model;
@@ -63,5 +64,20 @@ pub fn size_of(types: &Types, ty: &Ty) -> u64
     match laid_of(&types.table, ty) {
         None => 0,
         Some(laid) => laid.size,
+    }
+}
+
+/// What a getelementptr of the type adds by a path, modulo 2^64 as a signed number: the first index counts whole values, each further
+/// one goes into the type. None where an index is out of a struct's fields or goes into a type without parts. Any number, or none,
+/// for a type that isn't well formed.
+pub fn offset_of(types: &Types, ty: &Ty, path: &[i64]) -> Option<i64>
+    ensures { WellFormed types.now ty.now → result ≡ Offset types.now ty.now path.now }
+{
+    match path.split_first() {
+        None => Some(0),
+        Some((first, rest)) => {
+            let inner = walk(types.types.as_slice(), &types.table, ty, rest)?;
+            Some(first.wrapping_mul(stride(&types.table, ty)).wrapping_add(inner))
+        }
     }
 }
