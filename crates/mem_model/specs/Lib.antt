@@ -12,3 +12,5 @@ pub mod Bound
 pub mod Launching
 pub mod MemoryLaws
 pub mod Answers
+pub mod Coded
+pub mod Kept

@@ -11,6 +11,7 @@ mod launch;
 mod laws;
 mod memory;
 mod order;
+mod shared;
 mod step;
 
 pub use arithmetic::{compare, eval, sign_extend};
@@ -26,4 +27,5 @@ pub use laws::{
     word_comes_back,
 };
 pub use memory::{BlockName, Byte, Cell, Ptr, Word};
+pub use shared::Memory;
 pub use step::{End, Moved, NotReady, Trap};
