@@ -7,6 +7,7 @@
 mod arithmetic;
 mod bytes;
 mod covering;
+mod crossing;
 mod launch;
 mod laws;
 mod memory;
@@ -17,6 +18,7 @@ mod step;
 pub use arithmetic::{compare, eval, sign_extend};
 pub use bytes::{cell_size, number_of, place_in, read_word, write_word};
 pub use covering::{Behaves, covers_chain, covers_itself};
+pub use crossing::{accesses_cross, memory_crosses, runs_cross};
 pub use launch::{Arg, Launch, Shown};
 pub use laws::{
     address_is_no_number, allocate_goes, allocate_large, constant_traps, leak_traps, load_fits,
