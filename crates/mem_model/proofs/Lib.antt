@@ -8,3 +8,6 @@ pub mod BlockLaws
 pub mod PointerLaws
 pub mod Widths
 pub mod Spelling
+pub mod KeptLaws
+pub mod Changes
+pub mod Calls

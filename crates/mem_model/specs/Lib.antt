@@ -15,3 +15,5 @@ pub mod Globals
 pub mod Launching
 pub mod MemoryLaws
 pub mod Answers
+pub mod Coded
+pub mod Kept

@@ -7,15 +7,18 @@
 mod arithmetic;
 mod bytes;
 mod covering;
+mod crossing;
 mod launch;
 mod laws;
 mod memory;
 mod order;
+mod shared;
 mod step;
 
 pub use arithmetic::{compare, eval, sign_extend};
 pub use bytes::{cell_size, number_of, place_in, read_word, write_word};
 pub use covering::{Behaves, covers_chain, covers_itself};
+pub use crossing::{accesses_cross, memory_crosses, runs_cross};
 pub use launch::{Arg, Launch, Shown};
 pub use laws::{
     address_is_no_number, allocate_goes, allocate_large, constant_traps, leak_traps, load_fits,
@@ -26,4 +29,5 @@ pub use laws::{
     word_comes_back,
 };
 pub use memory::{BlockName, Byte, Cell, Ptr, Word};
+pub use shared::Memory;
 pub use step::{End, Moved, NotReady, Trap};
