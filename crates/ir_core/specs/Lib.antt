@@ -14,3 +14,4 @@ pub mod MachineOff
 pub mod Notes
 pub mod ReadsBack
 pub mod Wrappers
+pub mod Places

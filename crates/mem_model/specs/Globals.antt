@@ -21,7 +21,7 @@ use Rattle.mem_model.specs.Words.{word_bytes}
 use Rattle.mem_model.specs.Memory.{Memory, with_block}
 use Rattle.mem_model.specs.Thread.{Name}
 use Rattle.mem_model.specs.Values.{cell_of, address_of}
-use Rattle.mem_model.specs.Code.{function_place, global_place}
+use Rattle.ir_core.specs.Places.{function_place, global_place}
 
 -- with zero bytes behind, up to a size
 abbrev pub padded : ℕ → List Byte → List Byte

@@ -20,7 +20,7 @@ use Rattle.mem_model.specs.declared.memory.Word.{Word}
 use Rattle.mem_model.specs.declared.memory.Word.TheVariants.{Int, Ptr as Address}
 use Rattle.mem_model.specs.Memory.{Memory, no_blocks, with_block, block_limit, shown_block}
 use Rattle.mem_model.specs.Thread.{Registers, bound, Answers, ThreadState}
-use Rattle.mem_model.specs.Code.{function_place}
+use Rattle.ir_core.specs.Places.{function_place}
 use Rattle.mem_model.specs.Do.{Common}
 use Rattle.mem_model.specs.Globals.{with_globals}
 use Rattle.mem_model.specs.Bound.{Counted, whole_bound}

@@ -4,7 +4,6 @@ pub mod Words
 pub mod Memory
 pub mod Eval
 pub mod Thread
-pub mod Code
 pub mod Values
 pub mod Next
 pub mod Update

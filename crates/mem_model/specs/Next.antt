@@ -30,7 +30,7 @@ use Rattle.mem_model.specs.declared.step.Trap.TheVariants.{Unreachable, TooLarge
 use Rattle.mem_model.specs.Memory.{Given, block_limit}
 use Rattle.mem_model.specs.Eval.{Eval, compared}
 use Rattle.mem_model.specs.Thread.{Name, Place, Registers, Code, Frame, ThreadState, Where, InStack, Elsewhere, where_is, given_of, no_registers, assigned, bound, find_in, put_in, load_own, store_own}
-use Rattle.mem_model.specs.Code.{inst_at, labels, label_at, place_in, function_place, PhiNode, phis_at, edge_from}
+use Rattle.ir_core.specs.Places.{inst_at, labels, label_at, place_in, function_place, PhiNode, phis_at, edge_from}
 use Rattle.mem_model.specs.Values.{cell_of, width_of, value_word, and_then, operand_words, converted, path_of, moved, updated}
 
 -- ---- events: what a thread does to what it shares with others

@@ -22,7 +22,7 @@ use Rattle.mem_model.specs.declared.step.Trap.{Trap}
 use Rattle.mem_model.specs.declared.step.Trap.TheVariants.{Unassigned, Unreachable, NotNumber}
 use Rattle.mem_model.specs.Eval.{signed, wrapped}
 use Rattle.mem_model.specs.Thread.{Name, Registers}
-use Rattle.mem_model.specs.Code.{function_place, global_place}
+use Rattle.ir_core.specs.Places.{function_place, global_place}
 
 -- ---- types
 

@@ -28,7 +28,7 @@ use Rattle.mem_model.specs.declared.memory.Word.TheVariants.{Int}
 use Rattle.mem_model.specs.declared.step.Trap.{Trap}
 use Rattle.mem_model.specs.Eval.{truth, compared}
 use Rattle.mem_model.specs.Thread.{Name, Frame, ThreadState}
-use Rattle.mem_model.specs.Code.{inst_in, block_name, function_place, place_in, PhiNode, with_phi, leading_phis, phis_in}
+use Rattle.ir_core.specs.Places.{inst_in, block_name, function_place, place_in, PhiNode, with_phi, leading_phis, phis_in}
 use Rattle.mem_model.specs.Values.{register_word, value_word}
 use Rattle.mem_model.specs.Next.{NextStep, Local, Pending, Leaves, with_found, with_number, with_result, goes_on, to_label, CallsInit, CallsDeinit, defined_at, callee_of, next_call, next_kind, next_inst}
 use Rattle.mem_model.specs.Launching.{is_kernel as is_launched}

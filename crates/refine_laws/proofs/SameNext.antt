@@ -27,7 +27,7 @@ use Rattle.mem_model.specs.declared.memory.Byte.{Byte}
 use Rattle.mem_model.specs.declared.memory.Word.{Word}
 use Rattle.mem_model.specs.Memory.{Memory, no_blocks, with_block}
 use Rattle.mem_model.specs.Thread.{Name, Place, Registers, Answers, Frame, ThreadState, assigned, bound}
-use Rattle.mem_model.specs.Code.{block_in, inst_in, inst_at, block_name, labels_of, labels, function_name, function_place, global_place, place_in, PhiNode, with_phi, leading_phis, phis_in, phis_at, edge_from, name_in, label_at}
+use Rattle.ir_core.specs.Places.{block_in, inst_in, inst_at, block_name, labels_of, labels, function_name, function_place, global_place, place_in, PhiNode, with_phi, leading_phis, phis_in, phis_at, edge_from, name_in, label_at}
 use Rattle.mem_model.specs.Values.{address_of, value_word, and_then, operand_words, index_of, path_of}
 use Rattle.mem_model.specs.Next.{NextStep, Local, with_found, with_frames, goes_on, phi_word, with_phis, enters, to_block, to_label, CallsInit, CallsDeinit, CallsFunction, CallsOther, Callee, with_body, defined_as, defined_at, callee_of, called, next_call, next_kind, next_inst, next_frames, Next, result_of, resumed_frames, resumed, line_of, frames_line, line_at}
 use Rattle.mem_model.specs.Globals.{padded, Filled, found_bytes, init_layer, element_layer, contents, with_globals}

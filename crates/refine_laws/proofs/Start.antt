@@ -17,7 +17,7 @@ use Rattle.mem_model.specs.declared.memory.Byte.TheVariants.{Num}
 use Rattle.mem_model.specs.Blocks.{block_cmp}
 use Rattle.mem_model.specs.Memory.{Memory, no_blocks}
 use Rattle.mem_model.specs.Thread.{Answers, ThreadState}
-use Rattle.mem_model.specs.Code.{function_place}
+use Rattle.ir_core.specs.Places.{function_place}
 use Rattle.mem_model.specs.Globals.{contents, with_globals}
 use Rattle.mem_model.specs.Launching.{thread_at, first_thread, with_buffer, with_buffers, first_memory, first_common}
 use Rattle.mem_model.proofs.Orders.{block_total}

@@ -8,7 +8,7 @@ use Rattle.mem_model.specs.declared.launch.Launch.{Launch}
 use Rattle.mem_model.specs.declared.memory.Word.{Word}
 use Rattle.mem_model.specs.declared.memory.Word.TheVariants.{Int}
 use Rattle.mem_model.specs.Thread.{Name, Registers, Code, Frame, ThreadState, assigned}
-use Rattle.mem_model.specs.Code.{block_in, inst_in, labels_of, place_in, PhiNode, phis_in, label_at}
+use Rattle.ir_core.specs.Places.{block_in, inst_in, labels_of, place_in, PhiNode, phis_in, label_at}
 use Rattle.mem_model.specs.Next.{NextStep, Local, Pending, Leaves, with_found, with_phis, enters, to_block, next_inst, Next}
 use Rattle.mem_model.specs.Launching.{first_registers}
 use Rattle.team_model.specs.Team.{worker_answers}

@@ -19,7 +19,7 @@ use Rattle.mem_model.specs.declared.step.End.TheVariants.{Running, Ended, Stuck,
 use Rattle.mem_model.specs.declared.step.Trap.{Trap}
 use Rattle.mem_model.specs.Memory.{Memory, with_block}
 use Rattle.mem_model.specs.Thread.{Answers, ThreadState}
-use Rattle.mem_model.specs.Code.{function_place}
+use Rattle.ir_core.specs.Places.{function_place}
 use Rattle.mem_model.specs.Next.{Event, Does, Deinit, Leaves, NextStep, Local, Pending, Done, Trapped, Next, resumed, line_at}
 use Rattle.mem_model.specs.Do.{Common, Effect, Do}
 use Rattle.mem_model.specs.Runs.{run, Comes}

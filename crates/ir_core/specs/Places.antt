@@ -1,16 +1,26 @@
--- Look-ups in a module: instructions by place, blocks, functions and globals by name, and the phis of a block.
-use Rattle.std.specs.Prelude.{ℕ, ◌+◌, List, [], ◌∷◌, map, Option, Some, None, slice_get, if◌then◌else◌}
+-- Look-ups in a module: instructions by place; registers, blocks, functions and globals by name; and the phis of a block.
+use Rattle.std.specs.Prelude.{ℕ, ◌+◌, List, [], ◌∷◌, ◌++◌, map, Option, Some, None, slice_get, if◌then◌else◌}
+use Rattle.std.specs.List.{flat_map}
 use Rattle.std.specs.Str.{bytes_eq}
 use Rattle.ir_core.specs.declared.module.Module.{Module}
 use Rattle.ir_core.specs.declared.module.Function.{Function}
 use Rattle.ir_core.specs.declared.module.Block.{Block}
+use Rattle.ir_core.specs.declared.module.Param.{Param}
 use Rattle.ir_core.specs.declared.module.Global.{Global}
 use Rattle.ir_core.specs.declared.instructions.Value.{Value}
 use Rattle.ir_core.specs.declared.instructions.Edge.{Edge}
 use Rattle.ir_core.specs.declared.instructions.Kind.{Kind}
 use Rattle.ir_core.specs.declared.instructions.Kind.TheVariants.{Phi}
 use Rattle.ir_core.specs.declared.instructions.Inst.{Inst}
-use Rattle.mem_model.specs.Thread.{Name, Place}
+
+abbrev pub Name : Type 0
+Name = List ℕ
+
+-- where an instruction stands: the places of its function, block and itself, each from 0
+pub record Place : Type 0 where
+  pub function : ℕ
+  pub block : ℕ
+  pub index : ℕ
 
 abbrev pub block_in : Option Function → ℕ → Option Block
 block_in None b = None
@@ -56,6 +66,29 @@ global_name g = g.name
 -- the place of a global in the module
 abbrev pub global_place : Module → Name → Option ℕ
 global_place m x = place_in (map global_name m.globals) x
+
+-- ---- registers
+
+abbrev pub param_name : Param → Name
+param_name p = p.name
+
+abbrev pub result_names : Option Name → List Name
+result_names None = []
+result_names (Some x) = x ∷ []
+
+abbrev pub inst_results : Inst → List Name
+inst_results i = result_names i.result
+
+abbrev pub block_results : Block → List Name
+block_results b = flat_map inst_results b.insts
+
+-- a function's parameters and then its results, in the order of the text
+abbrev pub register_names_of : Option Function → List Name
+register_names_of None = []
+register_names_of (Some f) = map param_name f.params ++ flat_map block_results f.blocks
+
+abbrev pub register_names : Module → ℕ → List Name
+register_names m f = register_names_of (slice_get m.functions f)
 
 -- ---- phis
 
