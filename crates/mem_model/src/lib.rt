@@ -14,6 +14,7 @@ mod memory;
 mod order;
 mod shared;
 mod step;
+mod thread;
 
 pub use arithmetic::{compare, eval, sign_extend};
 pub use bytes::{cell_size, number_of, place_in, read_word, write_word};
@@ -31,3 +32,4 @@ pub use laws::{
 pub use memory::{BlockName, Byte, Cell, Ptr, Word};
 pub use shared::Memory;
 pub use step::{End, Moved, NotReady, Trap};
+pub use thread::{Answers, Frame, StackBlock, ThreadState};
