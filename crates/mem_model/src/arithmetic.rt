@@ -80,7 +80,7 @@ pub fn sign_extend(width: u32, n: u64) -> i64
 }
 
 /// Two to this power.
-fn power(exponent: u32) -> u128
+pub(crate) fn power(exponent: u32) -> u128
     requires { exponent ≤ 64 }
     ensures { result ≡ 2 ^ exponent }
 {

@@ -14,6 +14,8 @@ mod memory;
 mod order;
 mod shared;
 mod step;
+#[cfg(test)]
+mod tests;
 
 pub use arithmetic::{compare, eval, sign_extend};
 pub use bytes::{cell_size, number_of, place_in, read_word, write_word};

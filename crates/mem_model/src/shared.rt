@@ -1,5 +1,5 @@
 //! The memory that threads share: blocks, found by name.
-ghost use Rattle.std.specs.Prelude.{◌≡◌, ℕ, ◌<◌, ◌≤◌, Some, None, true, false, [], ◌∷◌, length, IfOk, IsSome};
+ghost use Rattle.std.specs.Prelude.{◌≡◌, ℕ, ◌<◌, ◌≤◌, Some, None, true, false, [], ◌∷◌, length, IfOk, IsSome, is_some};
 ghost use Rattle.std.specs.FinMap as fin;
 ghost use Rattle.mem_model.specs.Words as words;
 ghost use Rattle.mem_model.specs.Memory.{no_blocks, access, Load, Store, Allocate, Release, header_size, bytes_at};
@@ -115,6 +115,13 @@ impl Memory {
             alloc,
             blocks: BTreeMap::new(alloc),
         }
+    }
+
+    /// Whether the memory has a block of this name, released or not.
+    pub fn contains(&self, name: BlockName) -> bool
+        ensures { result ≡ is_some (fin.get self.now.blocks name) }
+    {
+        self.blocks.contains_key(&name)
     }
 
     /// Makes a block of so many zero bytes.
