@@ -42,6 +42,7 @@ impl Block {
         Ok(start)
     }
 
+    /// The word of a cell at an offset.
     fn read(&self, offset: i64, cell: Cell) -> Result<Word, Trap>
         requires { IsCell cell }
         ensures { result ≡ word_at cell self.now.bytes.items (access (Some (header_of self.now)) offset (words.cell_size cell) false) }
@@ -51,6 +52,7 @@ impl Block {
         read_word(&self.bytes[start..start + size], cell)
     }
 
+    /// Releases the block, of which the offset is the beginning and `len` the size.
     fn release(&mut self, offset: i64, len: u64) -> Result<(), Trap>
         ensures { IsReleased len offset self.old self.new result }
     {
@@ -64,6 +66,7 @@ impl Block {
         Ok(())
     }
 
+    /// Puts a byte at a place.
     fn set(&mut self, at: u64, byte: Byte)
         requires { at < length self.old.bytes.items }
         ensures { IsOverwritten self.old at (byte ∷ []) self.new }
@@ -71,6 +74,7 @@ impl Block {
         self.bytes[at as usize] = byte;
     }
 
+    /// Writes a word of a cell at an offset.
     fn write(&mut self, offset: i64, cell: Cell, word: Word) -> Result<(), Trap>
         requires cell { IsCell cell }
         requires word { IsOf cell word }
