@@ -1,7 +1,8 @@
 -- What a call on kept blocks answers is what the definition says of the memory that they are.
 use Rattle.std.proofs.Common.{◌≡◌, ℕ, zero, suc, ◌+◌, ◌-◌, ◌<◌, ◌≤◌, List, [], ◌∷◌, length, take, drop, get_or, ℤ, pos, negsuc, Bool, true, false, cond, ◌&&◌, Option, Some, None, Result, Ok, Err, refl, sym, ap, ◌∙◌, subst, arith, replicate, ◌⊎◌, inl, inr}
-use Rattle.std.specs.Prelude.{option_map, slice_get, if◌then◌else◌, IsSome, nat_le}
+use Rattle.std.specs.Prelude.{option_map, slice_get, if◌then◌else◌, IsSome, is_some, nat_le}
 use Rattle.std.specs.FinMap as fin
+use Rattle.std.specs.FinMap.{get-empty}
 use Rattle.std.proofs.lemmas.Bool.{cases_lt, false≢true, leb-true, le-leb}
 use Rattle.std.proofs.lemmas.Bool.Decides.{nat_tests}
 use Rattle.std.proofs.lemmas.List.{drop_more, take_all}
@@ -20,10 +21,10 @@ use Rattle.mem_model.specs.declared.memory.Cell.TheVariants.{Int as IntCell, Ptr
 use Rattle.mem_model.specs.declared.shared.Block.{Block}
 use Rattle.mem_model.specs.declared.step.Trap.{Trap}
 use Rattle.mem_model.specs.declared.step.Trap.TheVariants.{NoBlock, Released, OutOfBlock, Constant, TooLarge}
-use Rattle.mem_model.specs.Blocks.{same_block}
+use Rattle.mem_model.specs.Blocks.{block_cmp, same_block}
 use Rattle.mem_model.specs.Orders.{block_equiv}
 use Rattle.mem_model.specs.Words.{cell_size, word_bytes, word_in}
-use Rattle.mem_model.specs.Memory.{Memory, Header, Given, Shares, Leaks, unless, then_unless, access, byte_or_zero, bytes_at, put_bytes, load_from, store_to, with_block, header_size, is_all, release_header, block_limit, Load, Store, Allocate, Release}
+use Rattle.mem_model.specs.Memory.{Memory, no_blocks, Header, Given, Shares, Leaks, unless, then_unless, access, byte_or_zero, bytes_at, put_bytes, load_from, store_to, with_block, header_size, is_all, release_header, block_limit, Load, Store, Allocate, Release}
 use Rattle.mem_model.specs.Kept.{header_of, memory_of, word_at, IsOverwritten, IsWritten, released_by, IsReleased}
 use Rattle.mem_model.specs.Answers.{IsOf, IsDone, IsMade, with_byte}
 use Rattle.mem_model.specs.Thread.{given_of}
@@ -225,6 +226,16 @@ shows es name b m was is = kept_bytes_shown es name b was ∙ ap (shown_in name)
 
 pub shows_nothing : (es : List (BlockName × Block)) (name : BlockName) (m : Memory) → found name es ≡ None → memory_of es ≡ m → HasBlock name m → ⊥
 shows_nothing es name m none is has = false≢true (subst (λ h. IsSome h) (no_header es name none) (subst (HasBlock name) (sym is) has))
+
+has_header : (o : Option Block) → is_some o ≡ is_some (option_map header_of o)
+has_header None = refl
+has_header (Some b) = refl
+
+pub holds_block : (es : List (BlockName × Block)) (name : BlockName) (m : Memory) → memory_of es ≡ m → is_some (found name es) ≡ is_some (fin.get m.blocks name)
+holds_block es name m is = has_header (found name es) ∙ ap is_some (sym (blocks_get es name)) ∙ ap (λ x. is_some (fin.get x.blocks name)) is
+
+pub new_has_none : (m : Memory) (name : BlockName) → m ≡ no_blocks → fin.get m.blocks name ≡ None
+new_has_none m name e = ap (λ x. fin.get x.blocks name) e ∙ get-empty block_cmp name
 
 -- ---- what a new block answers
 

@@ -80,7 +80,7 @@ pub fn sign_extend(width: u32, n: u64) -> i64
 }
 
 /// Two to this power.
-fn power(exponent: u32) -> u128
+pub(crate) fn power(exponent: u32) -> u128
     requires { exponent ≤ 64 }
     ensures { result ≡ 2 ^ exponent }
 {
@@ -149,6 +149,7 @@ fn checked(
     Ok(low_bits(width, whole))
 }
 
+/// `add`.
 fn add(flags: Flags, width: u32, a: u64, b: u64) -> Result<u64, Trap>
     requires width { is_width width ≡ true }
     requires fits { (a < 2 ^ width) × (b < 2 ^ width) }
@@ -159,6 +160,7 @@ fn add(flags: Flags, width: u32, a: u64, b: u64) -> Result<u64, Trap>
     checked(flags, width, whole, whole < power(width), signed)
 }
 
+/// `sub`.
 fn subtract(flags: Flags, width: u32, a: u64, b: u64) -> Result<u64, Trap>
     requires width { is_width width ≡ true }
     requires fits { (a < 2 ^ width) × (b < 2 ^ width) }
@@ -169,7 +171,8 @@ fn subtract(flags: Flags, width: u32, a: u64, b: u64) -> Result<u64, Trap>
     checked(flags, width, whole, b <= a, signed)
 }
 
-/// The product with a number that is one without a sign and one with a sign.
+/// The product of a number with another, which is `by` where both are read without a sign and `signed_by` where they are
+/// read with one.
 fn multiplied(flags: Flags, width: u32, a: u64, by: u64, signed_by: i128) -> Result<u64, Trap>
     requires width { is_width width ≡ true }
     requires fits { a < 2 ^ width }
@@ -184,6 +187,7 @@ fn multiplied(flags: Flags, width: u32, a: u64, by: u64, signed_by: i128) -> Res
     checked(flags, width, whole, whole < power(width), signed)
 }
 
+/// `mul`.
 fn multiply(flags: Flags, width: u32, a: u64, b: u64) -> Result<u64, Trap>
     requires width { is_width width ≡ true }
     requires fits { (a < 2 ^ width) × (b < 2 ^ width) }
@@ -192,7 +196,7 @@ fn multiply(flags: Flags, width: u32, a: u64, b: u64) -> Result<u64, Trap>
     multiplied(flags, width, a, b, exact(width, b))
 }
 
-/// A shift is by less than the width, and traps as `Shift` else.
+/// `shl`. A shift is by less than the width, and traps as `Shift` else.
 fn shift_left(flags: Flags, width: u32, a: u64, b: u64) -> Result<u64, Trap>
     requires width { is_width width ≡ true }
     requires fits { (a < 2 ^ width) × (b < 2 ^ width) }
@@ -226,8 +230,7 @@ fn quotient(flags: Flags, width: u32, x: i128, y: i128) -> Result<u64, Trap>
     requires divides { y ≢ pos 0 }
     ensures { result ≡ spec.quotient flags width x y }
 {
-    let rest = x % y;
-    if flags.exact && rest != 0 {
+    if flags.exact && x % y != 0 {
         return Err(Trap::Overflow);
     }
     Ok(wrapped(width, x / y))
@@ -243,6 +246,7 @@ fn remainder(width: u32, x: i128, y: i128) -> u64
     wrapped(width, x % y)
 }
 
+/// `udiv`. There is no division by 0.
 fn divide_unsigned(flags: Flags, width: u32, a: u64, b: u64) -> Result<u64, Trap>
     requires { width ≤ 64 }
     ensures { result ≡ spec.unsigned_division a b (spec.quotient flags width) }
@@ -253,6 +257,7 @@ fn divide_unsigned(flags: Flags, width: u32, a: u64, b: u64) -> Result<u64, Trap
     quotient(flags, width, i128::from(a), i128::from(b))
 }
 
+/// `urem`. There is no division by 0.
 fn remainder_unsigned(width: u32, a: u64, b: u64) -> Result<u64, Trap>
     requires { width ≤ 64 }
     ensures { result ≡ spec.unsigned_division a b (spec.remainder width) }
@@ -272,6 +277,7 @@ fn divisible(width: u32, a: u64, b: u64) -> bool
     b != 0 && fits_signed(width, exact(width, a) / exact(width, b))
 }
 
+/// `sdiv`.
 fn divide_signed(flags: Flags, width: u32, a: u64, b: u64) -> Result<u64, Trap>
     requires width { is_width width ≡ true }
     requires fits { (a < 2 ^ width) × (b < 2 ^ width) }
@@ -283,6 +289,7 @@ fn divide_signed(flags: Flags, width: u32, a: u64, b: u64) -> Result<u64, Trap>
     quotient(flags, width, exact(width, a), exact(width, b))
 }
 
+/// `srem`. It traps where the division does.
 fn remainder_signed(width: u32, a: u64, b: u64) -> Result<u64, Trap>
     requires width { is_width width ≡ true }
     requires fits { (a < 2 ^ width) × (b < 2 ^ width) }

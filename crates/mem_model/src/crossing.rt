@@ -8,7 +8,14 @@ use crate::step::{End, Trap};
 fn crosses<T: Send + Sync>(_: &T) {}
 
 /// What an access takes and gives.
-pub fn accesses_cross(name: &BlockName, at: &Ptr, byte: &Byte, word: &Word, cell: &Cell, trap: &Trap) {
+pub fn accesses_cross(
+    name: &BlockName,
+    at: &Ptr,
+    byte: &Byte,
+    word: &Word,
+    cell: &Cell,
+    trap: &Trap,
+) {
     crosses(name);
     crosses(at);
     crosses(byte);

@@ -14,6 +14,8 @@ mod memory;
 mod order;
 mod shared;
 mod step;
+#[cfg(test)]
+mod tests;
 mod thread;
 
 pub use arithmetic::{compare, eval, sign_extend};

@@ -1,5 +1,5 @@
 //! The memory that threads share: blocks, found by name.
-ghost use Rattle.std.specs.Prelude.{◌≡◌, ℕ, ◌<◌, ◌≤◌, Some, None, true, false, [], ◌∷◌, length, IfOk, IsSome};
+ghost use Rattle.std.specs.Prelude.{◌≡◌, ℕ, ◌<◌, ◌≤◌, Some, None, true, false, [], ◌∷◌, length, IfOk, IsSome, is_some};
 ghost use Rattle.std.specs.FinMap as fin;
 ghost use Rattle.mem_model.specs.Words as words;
 ghost use Rattle.mem_model.specs.Memory.{no_blocks, access, Load, Store, Allocate, Release, header_size, bytes_at};
@@ -42,6 +42,7 @@ impl Block {
         Ok(start)
     }
 
+    /// The word of a cell at an offset.
     fn read(&self, offset: i64, cell: Cell) -> Result<Word, Trap>
         requires { IsCell cell }
         ensures { result ≡ word_at cell self.now.bytes.items (access (Some (header_of self.now)) offset (words.cell_size cell) false) }
@@ -51,6 +52,7 @@ impl Block {
         read_word(&self.bytes[start..start + size], cell)
     }
 
+    /// Releases the block, of which the offset is the beginning and `len` the size.
     fn release(&mut self, offset: i64, len: u64) -> Result<(), Trap>
         ensures { IsReleased len offset self.old self.new result }
     {
@@ -64,6 +66,7 @@ impl Block {
         Ok(())
     }
 
+    /// Puts a byte at a place.
     fn set(&mut self, at: u64, byte: Byte)
         requires { at < length self.old.bytes.items }
         ensures { IsOverwritten self.old at (byte ∷ []) self.new }
@@ -71,6 +74,7 @@ impl Block {
         self.bytes[at as usize] = byte;
     }
 
+    /// Writes a word of a cell at an offset.
     fn write(&mut self, offset: i64, cell: Cell, word: Word) -> Result<(), Trap>
         requires cell { IsCell cell }
         requires word { IsOf cell word }
@@ -115,6 +119,13 @@ impl Memory {
             alloc,
             blocks: BTreeMap::new(alloc),
         }
+    }
+
+    /// Whether the memory has a block of this name, released or not.
+    pub fn contains(&self, name: BlockName) -> bool
+        ensures { result ≡ is_some (fin.get self.now.blocks name) }
+    {
+        self.blocks.contains_key(&name)
     }
 
     /// Makes a block of so many zero bytes.
