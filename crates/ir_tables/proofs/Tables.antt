@@ -94,6 +94,7 @@ module _ (types : List TypeDef) (table : Table) (depth : ℕ) (right : (x : List
     where
       named : known_laid table x ≡ Some laid
       named = ap (λ y. layer_laid (known_laid table) (map-Ty Ty (Option Laid) (laid_of (known_laid table)) y)) (sym is) ∙ sym (fold_out-Ty (Option Laid) (layer_laid (known_laid table)) t) ∙ e
+
       by : (o : Option Known) → known_of table x ≡ o → named_parts depth types x ≡ own_parts (body_at types (end_or at (known_of table x)))
       by None q = absurd (none-some laid (ap (option_map (λ (k : Known). k.laid)) (sym q) ∙ named))
       by (Some k) q = (right x k q).3 ∙ ap (λ o. own_parts (body_at types (end_or at o))) (sym q)
@@ -106,8 +107,7 @@ module _ (types : List TypeDef) (table : Table) (depth : ℕ) (right : (x : List
   pub found_right : (at : ℕ) (t : Ty) (k : Known) (x : List ℕ) → body_at types at ≡ Some t → found_at table at t ≡ Some k → body_of types x ≡ Some t → Knows types (suc depth) x k
   found_right at t k x here e is =
       let parts = opened (laid_of (known_laid table) t) (layer_end table at (out-Ty t)) k e in
-      let layout = laid_right t k.laid parts.0 in
-      (
+      let layout = laid_right t k.laid parts.0 in (
         layout.0,
         ap (option_and_then (layout_by (named_layout depth types))) is ∙ layout.1,
         layout.2,
@@ -278,6 +278,7 @@ module _ (types : List TypeDef) (table : Table) (sound : IsSound types table) (s
       inside : (o : Option TypeDef) → slice_get types at ≡ o → option_map (λ (d : TypeDef). d.body) o ≡ Some t → at < length table.known
       inside None e is = absurd (none-some t is)
       inside (Some d) e is = let low = slice_get_within types at d e in let size = sound.size in omega arith
+
       by : (o : Option (Option Known)) → slice_get table.known at ≡ o → option_and_then (λ (p : Option Known). p) o ≡ None → slice_get table.known at ≡ Some None
       by None e is = absurd (none-some (get_or table.known at None) (sym e ∙ slice_get-get_or table.known at None (inside (slice_get types at) refl here)))
       by (Some None) e is = e

@@ -141,10 +141,10 @@ module _ (types : List TypeDef) (table : Table) (right : IsTable types table) wh
   whole_by i w (Some n) =
       let zero_plus : pos 0 +ℤ n ≡ n = omega (arith, ints) in
       ap Some (
-        ap (λ x. int_wrap w64 (int_wrap w64 (i *ℤ int_wrap w64 w) +ℤ int_wrap w64 x)) zero_plus
-        ∙ int_wrap-add_right w64 (int_wrap w64 (i *ℤ int_wrap w64 w)) n
-        ∙ int_wrap-add_left w64 (i *ℤ int_wrap w64 w) n
-        ∙ int_wrap-add_same w64 (i *ℤ int_wrap w64 w) (i *ℤ w) n (int_wrap-mul_right w64 i w)
+      ap (λ x. int_wrap w64 (int_wrap w64 (i *ℤ int_wrap w64 w) +ℤ int_wrap w64 x)) zero_plus
+      ∙ int_wrap-add_right w64 (int_wrap w64 (i *ℤ int_wrap w64 w)) n
+      ∙ int_wrap-add_left w64 (i *ℤ int_wrap w64 w) n
+      ∙ int_wrap-add_same w64 (i *ℤ int_wrap w64 w) (i *ℤ w) n (int_wrap-mul_right w64 i w)
       )
 
   pub whole_offset : (ty : Ty) (i : ℤ) (path : List ℤ) → WellFormed types ty →
