@@ -1,15 +1,15 @@
 -- What is kept of the layouts of named types gives what is kept of every type's.
-use Rattle.std.proofs.Common.{◌≡◌, ℕ, ◌+◌, ◌/◌, List, [], ◌∷◌, map, Option, Some, None, option_map, Bool, true, false, cond, refl, sym, ap, ◌∙◌, subst, if◌then◌else◌, eqb-true}
+use Rattle.std.proofs.Common.{◌≡◌, ℕ, ◌+◌, ◌/◌, List, [], ◌∷◌, map, Option, Some, None, option_map, Bool, true, false, refl, sym, ap, ◌∙◌, subst, if◌then◌else◌, eqb-true}
 use Rattle.std.specs.Prelude.{option_and_then, ◌==◌}
 use Rattle.std.specs.List.{fold}
-use Rattle.ir_core.specs.declared.types.Ty.{Ty, fold-Ty, roll-Ty, fold-roll-Ty, ind-Ty, map-Ty}
+use Rattle.ir_core.specs.declared.types.Ty.{Ty, roll-Ty, fold-roll-Ty, ind-Ty, map-Ty}
 use Rattle.ir_core.specs.declared.types.Ty.TheOpen.{Ty-F}
 use Rattle.ir_core.specs.Layout.{Layout, layer_layout, integer_layout, scalar_layout, all_some, array_layout, struct_layout, field_end, greater_align}
 use Rattle.ir_tables.specs.declared.laid.Align.{Align}
 use Rattle.ir_tables.specs.declared.laid.Align.TheVariants.{One, Two, Four, Eight}
 use Rattle.ir_tables.specs.declared.laid.Laid.{Laid}
 use Rattle.ir_tables.specs.Laid.{Keeps, align_bytes, scalar_laid, integer_laid, array_laid, empty_laid, with_field, with_fields, padded, layer_laid, laid_of}
-use Rattle.ir_tables.proofs.Numbers.{Keeps-array, Keeps-field, Keeps-padded, next_layout, padded_layout}
+use Rattle.ir_tables.proofs.Numbers.{Keeps-array, Keeps-field, Keeps-padded, next_layout}
 use Rattle.ir_tables.proofs.Deeper.{layout_by}
 
 abbrev pub AreKept : Option Laid → Option Layout → Type 0

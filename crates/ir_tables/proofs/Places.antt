@@ -1,5 +1,5 @@
 -- The places of types by their names.
-use Rattle.std.proofs.Common.{◌≡◌, ℕ, suc, ◌+◌, ◌<◌, List, [], ◌∷◌, ◌++◌, take, length, get_or, filter, Option, Some, None, option_map, Bool, true, false, cond, refl, sym, ap, ◌∙◌, subst, if◌then◌else◌, add-one, Decides}
+use Rattle.std.proofs.Common.{◌≡◌, ℕ, ◌+◌, ◌<◌, List, [], ◌∷◌, ◌++◌, take, length, filter, Option, Some, None, option_map, Bool, true, false, cond, refl, sym, ap, ◌∙◌, subst, if◌then◌else◌, add-one}
 use Rattle.std.specs.Prelude.{option_and_then, slice_get}
 use Rattle.std.specs.Map.{lookup}
 use Rattle.std.specs.Str.{bytes_eq}

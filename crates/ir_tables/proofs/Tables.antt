@@ -1,19 +1,18 @@
 -- A table that grows is right, and one that can't grow is whole.
-use Rattle.std.proofs.Common.{◌≡◌, ℕ, zero, suc, ◌+◌, ◌-◌, ◌<◌, ◌≤◌, List, [], ◌∷◌, ◌++◌, map, length, get_or, Option, Some, None, option_map, Bool, true, false, refl, sym, ap, ◌∙◌, subst, arith, ◌⊎◌, inl, inr, ◌≢◌, ◌||◌}
+use Rattle.std.proofs.Common.{◌≡◌, ℕ, zero, suc, ◌+◌, ◌-◌, ◌<◌, ◌≤◌, List, [], ◌∷◌, ◌++◌, length, get_or, Option, Some, None, option_map, Bool, true, false, refl, sym, ap, ◌∙◌, subst, arith, ◌⊎◌, inl, inr, ◌≢◌, ◌||◌}
 use Rattle.std.specs.Prelude.{option_and_then, slice_get, slice_set}
 use Rattle.std.proofs.lemmas.Option.{none-some, same_Some, slice_get_within, slice_get-get_or, slice_get_past}
 use Rattle.std.proofs.lemmas.Bool.{cases_eq, cases_lt}
 use Rattle.ir_core.specs.declared.types.Ty.{Ty, out-Ty, map-Ty, fold_out-Ty}
 use Rattle.ir_core.specs.declared.types.Ty.TheOpen.{Ty-F}
 use Rattle.ir_core.specs.declared.module.TypeDef.{TypeDef}
-use Rattle.ir_core.specs.Layout.{Layout, Parts, NoParts, layer_layout, named_layout, named_parts, layer_parts, body_parts, body_of}
+use Rattle.ir_core.specs.Layout.{Layout, NoParts, layer_layout, named_layout, named_parts, layer_parts, body_parts, body_of}
 use Rattle.ir_tables.specs.declared.laid.Laid.{Laid}
 use Rattle.ir_tables.specs.declared.table.Known.{Known}
-use Rattle.ir_tables.specs.declared.table.Places.{Places}
 use Rattle.ir_tables.specs.declared.table.Table.{Table}
 use Rattle.ir_tables.specs.Laid.{Keeps, laid_of, layer_laid}
 use Rattle.ir_tables.specs.Table.{body_at, ArePlaces, place_of, known_at, known_of, known_laid, end_or, layer_end, found_at, own_parts, Knows, KnowsAll, IsTable, count, open_in, is_open, IsSound, IsSettled, LaysOut, GrowsUpTo, Grows}
-use Rattle.ir_tables.proofs.Deeper.{Extends, Implies, layout_by, extended, one_deeper, deeper}
+use Rattle.ir_tables.proofs.Deeper.{Extends, Implies, layout_by, extended, deeper}
 use Rattle.ir_tables.proofs.Kept.{AreKept, kept}
 
 -- ---- how many are known

@@ -4,25 +4,49 @@ use ir_core::{Boxed, List, Name, Ty, TypeDef};
 use std::alloc::{AllocError, Global};
 use std::test::Fail;
 
-#[derive(Drop)]
-struct Case {
-    ty: Ty,
-    size: u64,
-    path: &'static [i64],
-    offset: Option<i64>,
+/// A type without parts that have parts.
+#[derive(Clone, Copy)]
+enum Shape {
+    Int(u32),
+    Ptr,
+    /// So many integers of so many bits.
+    Array(u64, u32),
+    /// Two integers of so many bits, or one and a pointer.
+    Pair(u32, Option<u32>),
+    Named(&'static [u8]),
 }
 
-fn expects(ty: Ty, size: u64, path: &'static [i64], offset: Option<i64>) -> Case {
-    Case {
-        ty,
-        size,
-        path,
-        offset,
+/// A type, its size, a path into it and the path's offset.
+type Case = (Shape, u64, &'static [i64], Option<i64>);
+
+const CASES: [Case; 12] = [
+    (Shape::Int(1), 1, &[3], Some(3)),
+    (Shape::Int(32), 4, &[-1], Some(-4)),
+    (Shape::Int(32), 4, &[0, 0], None),
+    (Shape::Ptr, 8, &[], Some(0)),
+    (Shape::Array(4, 16), 8, &[0, -1], Some(-2)),
+    (Shape::Array(0, 64), 0, &[9, 5], Some(40)),
+    (Shape::Array(1 << 61, 64), u64::MAX, &[1, 2], Some(16)),
+    (Shape::Pair(16, Some(8)), 4, &[2, 1], Some(10)),
+    (Shape::Pair(1, None), 16, &[0, 2], None),
+    (Shape::Pair(1, None), 16, &[0, -1], None),
+    (Shape::Named(b"row"), 48, &[1, 2, 1], Some(88)),
+    (Shape::Named(b"also"), 16, &[0, 1], Some(8)),
+];
+
+fn made(alloc: Global, shape: Shape) -> Result<Ty, AllocError> {
+    match shape {
+        Shape::Int(width) => Ok(Ty::Int(width)),
+        Shape::Ptr => Ok(Ty::Ptr),
+        Shape::Array(count, width) => array(alloc, count, Ty::Int(width)),
+        Shape::Pair(first, None) => pair(alloc, Ty::Int(first), Ty::Ptr),
+        Shape::Pair(first, Some(second)) => pair(alloc, Ty::Int(first), Ty::Int(second)),
+        Shape::Named(name) => named(alloc, name),
     }
 }
 
-fn named(alloc: Global, name: &str) -> Result<Ty, AllocError> {
-    Ok(Ty::Named(Name::from_slice(alloc, name.as_bytes())?))
+fn named(alloc: Global, name: &[u8]) -> Result<Ty, AllocError> {
+    Ok(Ty::Named(Name::from_slice(alloc, name)?))
 }
 
 fn array(alloc: Global, count: u64, item: Ty) -> Result<Ty, AllocError> {
@@ -36,107 +60,87 @@ fn pair(alloc: Global, first: Ty, second: Ty) -> Result<Ty, AllocError> {
     Ok(Ty::Struct(fields))
 }
 
-fn add(alloc: Global, types: &mut List<TypeDef>, name: &str, body: Ty) -> Result<(), AllocError> {
+fn add(alloc: Global, types: &mut List<TypeDef>, name: &[u8], body: Ty) -> Result<(), AllocError> {
     types.push(TypeDef {
-        name: Name::from_slice(alloc, name.as_bytes())?,
+        name: Name::from_slice(alloc, name)?,
         body,
         line: 1,
     })
 }
 
-// `%row = type [3 x %also]`, `%also = type %pair`, `%pair = type { i8, i64 }`, `%twice` as two types.
+// `%row = type [3 x %also]`, `%also = type %pair`, `%pair = type { i8, i64 }`, and `%twice` as two types.
 fn some_types(alloc: Global) -> Result<List<TypeDef>, AllocError> {
     let mut types = List::new(alloc);
-    add(
-        alloc,
-        &mut types,
-        "row",
-        array(alloc, 3, named(alloc, "also")?)?,
-    )?;
-    add(alloc, &mut types, "also", named(alloc, "pair")?)?;
+    add_row(alloc, &mut types)?;
+    add_pair(alloc, &mut types)?;
+    add_twice(alloc, &mut types)?;
     Ok(types)
 }
 
-fn more_types(alloc: Global, types: &mut List<TypeDef>) -> Result<(), AllocError> {
-    add(alloc, types, "pair", pair(alloc, Ty::Int(8), Ty::Int(64))?)?;
-    add(alloc, types, "twice", Ty::Int(8))?;
-    add(alloc, types, "twice", Ty::Int(16))
+fn add_row(alloc: Global, types: &mut List<TypeDef>) -> Result<(), AllocError> {
+    let row = array(alloc, 3, named(alloc, b"also")?)?;
+    add(alloc, types, b"row", row)
 }
 
-fn scalars(cases: &mut List<Case>) -> Result<(), AllocError> {
-    cases.push(expects(Ty::Int(1), 1, &[3], Some(3)))?;
-    cases.push(expects(Ty::Int(32), 4, &[-1], Some(-4)))?;
-    cases.push(expects(Ty::Int(32), 4, &[0, 0], None))?;
-    cases.push(expects(Ty::Ptr, 8, &[], Some(0)))
+fn add_pair(alloc: Global, types: &mut List<TypeDef>) -> Result<(), AllocError> {
+    add(alloc, types, b"also", named(alloc, b"pair")?)?;
+    add(
+        alloc,
+        types,
+        b"pair",
+        made(alloc, Shape::Pair(8, Some(64)))?,
+    )
 }
 
-fn arrays(alloc: Global, cases: &mut List<Case>) -> Result<(), AllocError> {
-    cases.push(expects(array(alloc, 4, Ty::Int(16))?, 8, &[0, -1], Some(-2)))?;
-    cases.push(expects(array(alloc, 0, Ty::Int(64))?, 0, &[9, 5], Some(40)))?;
-    let large = array(alloc, 1 << 61, Ty::Int(64))?;
-    cases.push(expects(large, u64::MAX, &[1, 2], Some(16)))
-}
-
-fn structs(alloc: Global, cases: &mut List<Case>) -> Result<(), AllocError> {
-    cases.push(expects(pair(alloc, Ty::Int(16), Ty::Int(8))?, 4, &[2, 1], Some(10)))?;
-    cases.push(expects(pair(alloc, Ty::Int(1), Ty::Ptr)?, 16, &[0, 2], None))?;
-    cases.push(expects(pair(alloc, Ty::Int(1), Ty::Ptr)?, 16, &[0, -1], None))
-}
-
-fn names(alloc: Global, cases: &mut List<Case>) -> Result<(), AllocError> {
-    cases.push(expects(named(alloc, "row")?, 48, &[1, 2, 1], Some(88)))?;
-    cases.push(expects(named(alloc, "also")?, 16, &[0, 1], Some(8)))
+fn add_twice(alloc: Global, types: &mut List<TypeDef>) -> Result<(), AllocError> {
+    add(alloc, types, b"twice", Ty::Int(8))?;
+    add(alloc, types, b"twice", Ty::Int(16))
 }
 
 #[test]
 fn sizes_and_offsets(rt: HostRuntime) -> Result<(), Fail> {
     let alloc = rt.alloc();
-    let mut defs = some_types(alloc)?;
-    more_types(alloc, &mut defs)?;
-    let types = Types::of(alloc, defs.as_slice())?;
-    let mut cases = List::new(alloc);
-    scalars(&mut cases)?;
-    arrays(alloc, &mut cases)?;
-    structs(alloc, &mut cases)?;
-    names(alloc, &mut cases)?;
-    for case in cases.as_slice() {
-        assert_eq!(rt; size_of(&types, &case.ty), case.size);
-        assert_eq!(rt; offset_of(&types, &case.ty, case.path), case.offset);
+    let types = Types::of(alloc, some_types(alloc)?.as_slice())?;
+    for (shape, size, path, offset) in CASES {
+        let ty = made(alloc, shape)?;
+        assert_eq!(rt; size_of(&types, &ty), size);
+        assert_eq!(rt; offset_of(&types, &ty, path), offset);
     }
     Ok(())
 }
 
-// `%0 = type i64`, and `%K = type { %K-1, %K-1 }` for the others, in this order or the other way round.
+// A type of this number is `{ T, T }`, where T is the type of the number below; that of 0 is `i64`.
+fn link(alloc: Global, number: u32) -> Result<Ty, AllocError> {
+    match number.checked_sub(1) {
+        None => Ok(Ty::Int(64)),
+        Some(part) => pair(alloc, numbered(alloc, part)?, numbered(alloc, part)?),
+    }
+}
+
+fn numbered(alloc: Global, number: u32) -> Result<Ty, AllocError> {
+    named(alloc, &number.to_be_bytes())
+}
+
+// The types of the numbers below `count`, from 0 on or from the last one down.
 fn chain(alloc: Global, count: u32, down: bool) -> Result<List<TypeDef>, AllocError> {
     let mut types = List::new(alloc);
     for step in 0..count {
-        let k = if down { count - 1 - step } else { step };
-        let body = link(alloc, k)?;
-        add(alloc, &mut types, format!(in alloc; "{k}")?.as_str(), body)?;
+        let number = if down { count - 1 - step } else { step };
+        let body = link(alloc, number)?;
+        add(alloc, &mut types, &number.to_be_bytes(), body)?;
     }
     Ok(types)
-}
-
-fn link(alloc: Global, k: u32) -> Result<Ty, AllocError> {
-    match k.checked_sub(1) {
-        None => Ok(Ty::Int(64)),
-        Some(part) => {
-            let first = named(alloc, format!(in alloc; "{part}")?.as_str())?;
-            let second = named(alloc, format!(in alloc; "{part}")?.as_str())?;
-            pair(alloc, first, second)
-        }
-    }
 }
 
 #[test]
 fn long_chains(rt: HostRuntime) -> Result<(), Fail> {
     let alloc = rt.alloc();
     for down in [false, true] {
-        let types = Types::of(alloc, chain(alloc, 100_000, down)?.as_slice())?;
-        assert_eq!(rt; size_of(&types, &named(alloc, "40")?), 8 << 40);
-        assert_eq!(rt; size_of(&types, &named(alloc, "99999")?), u64::MAX);
+        let types = Types::of(alloc, chain(alloc, 20_000, down)?.as_slice())?;
+        assert_eq!(rt; size_of(&types, &numbered(alloc, 40)?), 8 << 40);
+        assert_eq!(rt; size_of(&types, &numbered(alloc, 19_999)?), u64::MAX);
         assert_eq!(rt;
-            offset_of(&types, &named(alloc, "60")?, &[0, 1, 1]),
+            offset_of(&types, &numbered(alloc, 60)?, &[0, 1, 1]),
             Some(3 << 61)
         );
     }
