@@ -1,8 +1,8 @@
 -- Layouts where names are looked through deeper.
-use Rattle.std.proofs.Common.{◌≡◌, ℕ, zero, suc, ◌+◌, ◌-◌, ◌≤◌, List, [], ◌∷◌, map, length, Option, Some, None, option_map, refl, sym, ap, ◌∙◌, subst, arith}
+use Rattle.std.proofs.Common.{◌≡◌, ℕ, zero, suc, ◌+◌, ◌-◌, ◌≤◌, List, [], ◌∷◌, map, Option, Some, None, option_map, refl, sym, ap, ◌∙◌, subst, arith}
 use Rattle.std.specs.Prelude.{option_and_then}
 use Rattle.std.proofs.lemmas.Option.{none-some}
-use Rattle.ir_core.specs.declared.types.Ty.{Ty, out-Ty, fold-Ty, roll-Ty, fold-roll-Ty, ind-Ty, map-Ty}
+use Rattle.ir_core.specs.declared.types.Ty.{Ty, fold-Ty, roll-Ty, fold-roll-Ty, ind-Ty, map-Ty}
 use Rattle.ir_core.specs.declared.types.Ty.TheOpen.{Ty-F}
 use Rattle.ir_core.specs.declared.module.TypeDef.{TypeDef}
 use Rattle.ir_core.specs.Layout.{Layout, layer_layout, named_layout, body_of, all_some, array_layout, struct_layout}

@@ -1,7 +1,7 @@
 -- Layouts and offsets of a few types, computed.
-use Rattle.std.proofs.Common.{◌≡◌, ℕ, List, [], ◌∷◌, map, Option, Some, None, option_map, refl, sym, ap, ◌∙◌}
+use Rattle.std.proofs.Common.{◌≡◌, ℕ, List, [], ◌∷◌, map, Option, Some, option_map, refl, sym, ap, ◌∙◌}
 use Rattle.std.specs.Int.{int_wrap}
-use Rattle.ir_core.specs.declared.types.Ty.{Ty, out-Ty, fold-Ty, fold-roll-Ty, roll-Ty, out-roll-Ty}
+use Rattle.ir_core.specs.declared.types.Ty.{Ty, out-Ty, fold-roll-Ty, out-roll-Ty}
 use Rattle.ir_core.specs.declared.types.Ty.TheOpen.{Ty-F}
 use Rattle.ir_core.specs.declared.types.Ty.TheVariants.{Int, Ptr, Array, Struct, Named, rolls-Int, rolls-Ptr, rolls-Array, rolls-Struct, rolls-Named}
 use Rattle.ir_core.specs.Layout.{Layout, layer_layout, named_layout, layout_of, array_layout, struct_layout, integer_layout, scalar_layout, all_some, or_no_layout, Size}

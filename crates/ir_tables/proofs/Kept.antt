@@ -1,15 +1,15 @@
 -- What is kept of the layouts of named types gives what is kept of every type's.
-use Rattle.std.proofs.Common.{◌≡◌, ℕ, ◌+◌, ◌/◌, List, [], ◌∷◌, map, Option, Some, None, option_map, Bool, true, false, cond, refl, sym, ap, ◌∙◌, subst, if◌then◌else◌, eqb-true}
+use Rattle.std.proofs.Common.{◌≡◌, ℕ, ◌+◌, ◌/◌, List, [], ◌∷◌, map, Option, Some, None, option_map, Bool, true, false, refl, sym, ap, ◌∙◌, subst, if◌then◌else◌, eqb-true}
 use Rattle.std.specs.Prelude.{option_and_then, ◌==◌}
 use Rattle.std.specs.List.{fold}
-use Rattle.ir_core.specs.declared.types.Ty.{Ty, fold-Ty, roll-Ty, fold-roll-Ty, ind-Ty, map-Ty}
+use Rattle.ir_core.specs.declared.types.Ty.{Ty, roll-Ty, fold-roll-Ty, ind-Ty, map-Ty}
 use Rattle.ir_core.specs.declared.types.Ty.TheOpen.{Ty-F}
 use Rattle.ir_core.specs.Layout.{Layout, layer_layout, integer_layout, scalar_layout, all_some, array_layout, struct_layout, field_end, greater_align}
 use Rattle.ir_tables.specs.declared.laid.Align.{Align}
 use Rattle.ir_tables.specs.declared.laid.Align.TheVariants.{One, Two, Four, Eight}
 use Rattle.ir_tables.specs.declared.laid.Laid.{Laid}
 use Rattle.ir_tables.specs.Laid.{Keeps, align_bytes, scalar_laid, integer_laid, array_laid, empty_laid, with_field, with_fields, padded, layer_laid, laid_of}
-use Rattle.ir_tables.proofs.Numbers.{Keeps-array, Keeps-field, Keeps-padded, next_layout, padded_layout}
+use Rattle.ir_tables.proofs.Numbers.{Keeps-array, Keeps-field, Keeps-padded, next_layout}
 use Rattle.ir_tables.proofs.Deeper.{layout_by}
 
 abbrev pub AreKept : Option Laid → Option Layout → Type 0
@@ -36,7 +36,6 @@ array_kept n (Some a) (Some l) k = Keeps-array n a l k
 abbrev pub ends : Layout → List Layout → Layout
 ends whole fields = record { size = fold field_end whole.size fields; align = fold greater_align whole.align fields }
 
-
 pulled : (l m : Layout) (ps : Option (List Layout)) → option_map (ends (next_layout l m)) ps ≡ option_map (ends l) (option_map (λ ls. m ∷ ls) ps)
 pulled l m None = refl
 pulled l m (Some ls) = refl
@@ -61,8 +60,8 @@ scalar_of a width size same bytes = subst (λ n. Keeps (scalar_laid a) (scalar_l
 
 by_width : (width : ℕ) (is1 is8 is16 is32 is64 : Bool) → (is1 ≡ true → width ≡ 1) → (is8 ≡ true → width ≡ 8) → (is16 ≡ true → width ≡ 16) → (is32 ≡ true → width ≡ 32) → (is64 ≡ true → width ≡ 64) →
     AreKept
-      (if is1 then Some (scalar_laid One) else if is8 then Some (scalar_laid One) else if is16 then Some (scalar_laid Two) else if is32 then Some (scalar_laid Four) else if is64 then Some (scalar_laid Eight) else None)
-      (if (if is1 then true else if is8 then true else if is16 then true else if is32 then true else is64) then Some (scalar_layout ((width + 7) / 8)) else None)
+    (if is1 then Some (scalar_laid One) else if is8 then Some (scalar_laid One) else if is16 then Some (scalar_laid Two) else if is32 then Some (scalar_laid Four) else if is64 then Some (scalar_laid Eight) else None)
+    (if (if is1 then true else if is8 then true else if is16 then true else if is32 then true else is64) then Some (scalar_layout ((width + 7) / 8)) else None)
 by_width width true is8 is16 is32 is64 p1 p8 p16 p32 p64 = scalar_of One width 1 (p1 refl) refl
 by_width width false true is16 is32 is64 p1 p8 p16 p32 p64 = scalar_of One width 8 (p8 refl) refl
 by_width width false false true is32 is64 p1 p8 p16 p32 p64 = scalar_of Two width 16 (p16 refl) refl

@@ -1,5 +1,5 @@
 -- What is kept of a layout stays so as layouts are put together.
-use Rattle.std.proofs.Common.{◌≡◌, ℕ, zero, suc, ◌⊎◌, inl, inr, ◌+◌, ◌-◌, ◌*◌, ◌/◌, ◌%◌, ◌^◌, ◌≤◌, ◌<◌, min, max, List, [], ◌∷◌, refl, sym, ap, ◌∙◌, subst, arith, zero-mul}
+use Rattle.std.proofs.Common.{◌≡◌, ℕ, zero, suc, ◌⊎◌, inl, inr, ◌+◌, ◌*◌, ◌%◌, ◌^◌, ◌≤◌, ◌<◌, max, refl, ap, ◌∙◌, arith, zero-mul}
 use Rattle.std.proofs.lemmas.Nat.{mul-mod_second, mul-le}
 use Rattle.std.proofs.lemmas.Bool.{cases_lt}
 use Rattle.ir_core.specs.Layout.{Layout, aligned, field_end, greater_align, array_layout}

@@ -1,5 +1,5 @@
 -- The places of types by their names.
-use Rattle.std.proofs.Common.{◌≡◌, ℕ, suc, ◌+◌, ◌<◌, List, [], ◌∷◌, ◌++◌, take, length, get_or, filter, Option, Some, None, option_map, Bool, true, false, cond, refl, sym, ap, ◌∙◌, subst, if◌then◌else◌, add-one, Decides}
+use Rattle.std.proofs.Common.{◌≡◌, ℕ, ◌+◌, ◌<◌, List, [], ◌∷◌, ◌++◌, take, length, filter, Option, Some, None, option_map, Bool, true, false, cond, refl, sym, ap, ◌∙◌, subst, if◌then◌else◌, add-one}
 use Rattle.std.specs.Prelude.{option_and_then, slice_get}
 use Rattle.std.specs.Map.{lookup}
 use Rattle.std.specs.Str.{bytes_eq}
@@ -74,9 +74,9 @@ one_more types at d (Some Twice) ds here fits = (fits.0, fits.1, fits.2 ++ d ∷
 named-push : (x : List ℕ) (ds : List TypeDef) (d : TypeDef) → named x (ds ++ d ∷ []) ≡ named x ds ++ cond (bytes_eq d.name x) (d ∷ []) []
 named-push x [] d = elim (bytes_eq d.name x) as (λ b. cond b (d ∷ []) [] ≡ cond b (d ∷ []) []) [ true ↦ refl | false ↦ refl ]
 named-push x (e ∷ ds) d = elim (bytes_eq e.name x) as (λ b. cond b (e ∷ named x (ds ++ d ∷ [])) (named x (ds ++ d ∷ [])) ≡ cond b (e ∷ named x ds) (named x ds) ++ cond (bytes_eq d.name x) (d ∷ []) []) [
-    | true ↦ ap (λ l. e ∷ l) (named-push x ds d)
-    | false ↦ named-push x ds d
-  ]
+  | true ↦ ap (λ l. e ∷ l) (named-push x ds d)
+  | false ↦ named-push x ds d
+]
 
 -- one type more, where the table has the place of its name
 pub fits_more : (types : List TypeDef) (at : ℕ) (d : TypeDef) (x : List ℕ) (o mine : Option Place) → at < length types → slice_get types at ≡ Some d → Fits types o (named x (take at types)) → (bytes_eq x d.name ≡ true → mine ≡ o) →

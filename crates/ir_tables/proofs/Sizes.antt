@@ -1,14 +1,14 @@
 -- The layouts that a whole table gives.
-use Rattle.std.proofs.Common.{◌≡◌, ℕ, List, length, map, min, Option, Some, None, option_map, refl, sym, ap, ◌∙◌, subst}
+use Rattle.std.proofs.Common.{◌≡◌, ℕ, List, length, Option, Some, None, option_map, sym, subst}
 use Rattle.std.specs.Prelude.{IsSome}
 use Rattle.std.proofs.lemmas.Option.{none-some, same_Some}
 use Rattle.ir_core.specs.declared.types.Ty.{Ty}
 use Rattle.ir_core.specs.declared.module.TypeDef.{TypeDef}
-use Rattle.ir_core.specs.Layout.{Layout, named_layout, layout_of, or_no_layout, WellFormed, Size}
+use Rattle.ir_core.specs.Layout.{Layout, named_layout, layout_of, or_no_layout, WellFormed}
 use Rattle.ir_tables.specs.declared.laid.Laid.{Laid}
 use Rattle.ir_tables.specs.declared.table.Known.{Known}
 use Rattle.ir_tables.specs.declared.table.Table.{Table}
-use Rattle.ir_tables.specs.Laid.{Keeps, cut, laid_of}
+use Rattle.ir_tables.specs.Laid.{Keeps, laid_of}
 use Rattle.ir_tables.specs.Table.{known_of, known_laid, KnowsAll, IsTable}
 use Rattle.ir_tables.proofs.Kept.{AreKept, kept}
 

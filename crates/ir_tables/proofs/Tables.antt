@@ -1,19 +1,18 @@
 -- A table that grows is right, and one that can't grow is whole.
-use Rattle.std.proofs.Common.{◌≡◌, ℕ, zero, suc, ◌+◌, ◌-◌, ◌<◌, ◌≤◌, List, [], ◌∷◌, ◌++◌, map, length, get_or, Option, Some, None, option_map, Bool, true, false, refl, sym, ap, ◌∙◌, subst, arith, ◌⊎◌, inl, inr, ◌≢◌, ◌||◌}
+use Rattle.std.proofs.Common.{◌≡◌, ℕ, zero, suc, ◌+◌, ◌-◌, ◌<◌, ◌≤◌, List, [], ◌∷◌, ◌++◌, length, get_or, Option, Some, None, option_map, Bool, true, false, refl, sym, ap, ◌∙◌, subst, arith, ◌⊎◌, inl, inr, ◌≢◌, ◌||◌}
 use Rattle.std.specs.Prelude.{option_and_then, slice_get, slice_set}
 use Rattle.std.proofs.lemmas.Option.{none-some, same_Some, slice_get_within, slice_get-get_or, slice_get_past}
 use Rattle.std.proofs.lemmas.Bool.{cases_eq, cases_lt}
 use Rattle.ir_core.specs.declared.types.Ty.{Ty, out-Ty, map-Ty, fold_out-Ty}
 use Rattle.ir_core.specs.declared.types.Ty.TheOpen.{Ty-F}
 use Rattle.ir_core.specs.declared.module.TypeDef.{TypeDef}
-use Rattle.ir_core.specs.Layout.{Layout, Parts, NoParts, layer_layout, named_layout, named_parts, layer_parts, body_parts, body_of}
+use Rattle.ir_core.specs.Layout.{Layout, NoParts, layer_layout, named_layout, named_parts, layer_parts, body_parts, body_of}
 use Rattle.ir_tables.specs.declared.laid.Laid.{Laid}
 use Rattle.ir_tables.specs.declared.table.Known.{Known}
-use Rattle.ir_tables.specs.declared.table.Places.{Places}
 use Rattle.ir_tables.specs.declared.table.Table.{Table}
 use Rattle.ir_tables.specs.Laid.{Keeps, laid_of, layer_laid}
 use Rattle.ir_tables.specs.Table.{body_at, ArePlaces, place_of, known_at, known_of, known_laid, end_or, layer_end, found_at, own_parts, Knows, KnowsAll, IsTable, count, open_in, is_open, IsSound, IsSettled, LaysOut, GrowsUpTo, Grows}
-use Rattle.ir_tables.proofs.Deeper.{Extends, Implies, layout_by, extended, one_deeper, deeper}
+use Rattle.ir_tables.proofs.Deeper.{Extends, Implies, layout_by, extended, deeper}
 use Rattle.ir_tables.proofs.Kept.{AreKept, kept}
 
 -- ---- how many are known
@@ -94,6 +93,7 @@ module _ (types : List TypeDef) (table : Table) (depth : ℕ) (right : (x : List
     where
       named : known_laid table x ≡ Some laid
       named = ap (λ y. layer_laid (known_laid table) (map-Ty Ty (Option Laid) (laid_of (known_laid table)) y)) (sym is) ∙ sym (fold_out-Ty (Option Laid) (layer_laid (known_laid table)) t) ∙ e
+
       by : (o : Option Known) → known_of table x ≡ o → named_parts depth types x ≡ own_parts (body_at types (end_or at (known_of table x)))
       by None q = absurd (none-some laid (ap (option_map (λ (k : Known). k.laid)) (sym q) ∙ named))
       by (Some k) q = (right x k q).3 ∙ ap (λ o. own_parts (body_at types (end_or at o))) (sym q)
@@ -106,8 +106,7 @@ module _ (types : List TypeDef) (table : Table) (depth : ℕ) (right : (x : List
   pub found_right : (at : ℕ) (t : Ty) (k : Known) (x : List ℕ) → body_at types at ≡ Some t → found_at table at t ≡ Some k → body_of types x ≡ Some t → Knows types (suc depth) x k
   found_right at t k x here e is =
       let parts = opened (laid_of (known_laid table) t) (layer_end table at (out-Ty t)) k e in
-      let layout = laid_right t k.laid parts.0 in
-      (
+      let layout = laid_right t k.laid parts.0 in (
         layout.0,
         ap (option_and_then (layout_by (named_layout depth types))) is ∙ layout.1,
         layout.2,
@@ -278,6 +277,7 @@ module _ (types : List TypeDef) (table : Table) (sound : IsSound types table) (s
       inside : (o : Option TypeDef) → slice_get types at ≡ o → option_map (λ (d : TypeDef). d.body) o ≡ Some t → at < length table.known
       inside None e is = absurd (none-some t is)
       inside (Some d) e is = let low = slice_get_within types at d e in let size = sound.size in omega arith
+
       by : (o : Option (Option Known)) → slice_get table.known at ≡ o → option_and_then (λ (p : Option Known). p) o ≡ None → slice_get table.known at ≡ Some None
       by None e is = absurd (none-some (get_or table.known at None) (sym e ∙ slice_get-get_or table.known at None (inside (slice_get types at) refl here)))
       by (Some None) e is = e

@@ -1,24 +1,23 @@
 -- The way that indices go into a type, by the table, is that of the type.
-use Rattle.std.proofs.Common.{◌≡◌, ℕ, suc, ◌+◌, ◌*◌, ◌<◌, get_or, drop, add-one, drop-cons, ℤ, pos, negsuc, ◌+ℤ◌, ◌*ℤ◌, ◌%◌, ◌^◌, List, [], ◌∷◌, map, take, length, Option, Some, None, option_map, is_some, refl, sym, ap, ◌∙◌, subst, arith}
+use Rattle.std.proofs.Common.{◌≡◌, ℕ, suc, ◌+◌, ◌*◌, ◌<◌, get_or, drop, add-one, drop-cons, ℤ, pos, negsuc, ◌+ℤ◌, ◌*ℤ◌, ◌%◌, ◌^◌, List, [], ◌∷◌, map, take, length, Option, Some, None, option_map, refl, sym, ap, ◌∙◌, subst, arith}
 use Rattle.std.specs.Prelude.{slice_get}
-use Rattle.std.specs.List.{fold}
 use Rattle.std.specs.Int.{int_wrap, w64, cast_signed, cast_unsigned}
 use Rattle.std.specs.Int.RustNames.{FitsSigned}
 use Rattle.std.proofs.lemmas.Int.{ints, int_wrap-add_left, int_wrap-add_right, int_wrap-add_same, int_wrap-mul_right, wrapping_add_onto, wrapping_mul_is}
-use Rattle.std.proofs.lemmas.Option.{none-some, same_Some}
+use Rattle.std.proofs.lemmas.Option.{none-some}
 use Rattle.ir_core.specs.declared.types.Ty.{Ty, out-Ty, map-Ty, fold_out-Ty}
 use Rattle.ir_core.specs.declared.types.Ty.TheOpen.{Ty-F}
 use Rattle.ir_core.specs.declared.module.TypeDef.{TypeDef}
-use Rattle.ir_core.specs.Layout.{Layout, Parts, Items, Fields, NoParts, layer_layout, layer_parts, named_layout, named_parts, parts_of, layout_of, all_some, aligned, field_end, the_layout, field_start, or_no_layout, plus, into, into_field, inner_offset, WellFormed, Size, Offset}
+use Rattle.ir_core.specs.Layout.{Layout, Parts, Items, Fields, NoParts, layer_layout, layer_parts, named_layout, named_parts, parts_of, layout_of, the_layout, field_start, plus, into, into_field, inner_offset, WellFormed, Size, Offset}
 use Rattle.ir_tables.specs.declared.laid.Laid.{Laid}
 use Rattle.ir_tables.specs.declared.table.Known.{Known}
 use Rattle.ir_tables.specs.declared.table.Table.{Table}
-use Rattle.ir_tables.specs.Laid.{Keeps, align_bytes, empty_laid, with_fields, laid_of, fields_laid, stride, start}
+use Rattle.ir_tables.specs.Laid.{empty_laid, laid_of, fields_laid, stride, start}
 use Rattle.ir_tables.specs.Table.{known_of, known_laid, end_parts, table_parts, KnowsAll, IsTable}
-use Rattle.ir_tables.specs.Walk.{Step, field_step, step_into, go_on, walk}
+use Rattle.ir_tables.specs.Walk.{field_step, step_into, go_on, walk}
 use Rattle.ir_tables.proofs.Numbers.{start_kept}
 use Rattle.ir_tables.proofs.Kept.{AreKept, ends, fields_are_kept}
-use Rattle.ir_tables.proofs.Sizes.{layout_kept, laid_some, laid_none, names_kept}
+use Rattle.ir_tables.proofs.Sizes.{laid_some, laid_none, names_kept}
 use Rattle.ir_tables.proofs.WellFormed.{AllWell, PartsWell, layout_some, parts_well, all_layouts, front_well, field_well}
 
 -- ---- numbers
@@ -141,10 +140,10 @@ module _ (types : List TypeDef) (table : Table) (right : IsTable types table) wh
   whole_by i w (Some n) =
       let zero_plus : pos 0 +ℤ n ≡ n = omega (arith, ints) in
       ap Some (
-        ap (λ x. int_wrap w64 (int_wrap w64 (i *ℤ int_wrap w64 w) +ℤ int_wrap w64 x)) zero_plus
-        ∙ int_wrap-add_right w64 (int_wrap w64 (i *ℤ int_wrap w64 w)) n
-        ∙ int_wrap-add_left w64 (i *ℤ int_wrap w64 w) n
-        ∙ int_wrap-add_same w64 (i *ℤ int_wrap w64 w) (i *ℤ w) n (int_wrap-mul_right w64 i w)
+      ap (λ x. int_wrap w64 (int_wrap w64 (i *ℤ int_wrap w64 w) +ℤ int_wrap w64 x)) zero_plus
+      ∙ int_wrap-add_right w64 (int_wrap w64 (i *ℤ int_wrap w64 w)) n
+      ∙ int_wrap-add_left w64 (i *ℤ int_wrap w64 w) n
+      ∙ int_wrap-add_same w64 (i *ℤ int_wrap w64 w) (i *ℤ w) n (int_wrap-mul_right w64 i w)
       )
 
   pub whole_offset : (ty : Ty) (i : ℤ) (path : List ℤ) → WellFormed types ty →

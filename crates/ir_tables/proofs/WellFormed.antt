@@ -6,7 +6,7 @@ use Rattle.ir_core.specs.declared.types.Ty.{Ty, out-Ty, map-Ty, fold_out-Ty}
 use Rattle.ir_core.specs.declared.types.Ty.TheOpen.{Ty-F}
 use Rattle.ir_core.specs.declared.module.TypeDef.{TypeDef}
 use Rattle.ir_core.specs.Layout.{Layout, Parts, Items, Fields, NoParts, layer_layout, layer_parts, body_parts, named_layout, named_parts, body_of, parts_of, layout_of, all_some, array_layout, struct_layout, or_no_layout, the_layout, WellFormed}
-use Rattle.ir_tables.proofs.Deeper.{Extends, layout_by, extended, deeper}
+use Rattle.ir_tables.proofs.Deeper.{layout_by, extended, deeper}
 
 -- a type with a layout
 abbrev pub HasLayout : Option Layout → Type 0

@@ -9,6 +9,8 @@ mod laws;
 mod offsets;
 mod order;
 mod table;
+#[cfg(test)]
+mod tests;
 mod types;
 
 pub use laws::{

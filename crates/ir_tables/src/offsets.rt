@@ -45,7 +45,12 @@ fn parts_of<'a>(types: &'a [TypeDef], table: &Table, ty: &'a Ty) -> Inside<'a>
 }
 
 /// How far an index goes, modulo 2^64, and into which type.
-fn step_into<'a>(types: &'a [TypeDef], table: &Table, ty: &'a Ty, index: i64) -> Option<(i64, &'a Ty)>
+fn step_into<'a>(
+    types: &'a [TypeDef],
+    table: &Table,
+    ty: &'a Ty,
+    index: i64,
+) -> Option<(i64, &'a Ty)>
     ensures { option_map step_seen result ≡ step_into table.now index (table_parts types.now table.now ty.now) }
 {
     match parts_of(types, table, ty) {

@@ -56,7 +56,12 @@ impl Waiting {
 
 /// Lets the type at a place wait for each named part of its body. How many there are.
 #[cycle(wait_for)]
-fn wait_for(waiting: &mut Waiting, places: &Places, at: usize, body: &Ty) -> Result<usize, OutOfMemory> {
+fn wait_for(
+    waiting: &mut Waiting,
+    places: &Places,
+    at: usize,
+    body: &Ty,
+) -> Result<usize, OutOfMemory> {
     match body {
         Ty::Void | Ty::Int(_) | Ty::Ptr => Ok(0),
         Ty::Array(_, item) => wait_for(waiting, places, at, item.get()),
@@ -69,7 +74,12 @@ fn wait_for(waiting: &mut Waiting, places: &Places, at: usize, body: &Ty) -> Res
 }
 
 #[cycle(wait_for)]
-fn wait_for_fields(waiting: &mut Waiting, places: &Places, at: usize, fields: &[Ty]) -> Result<usize, OutOfMemory> {
+fn wait_for_fields(
+    waiting: &mut Waiting,
+    places: &Places,
+    at: usize,
+    fields: &[Ty],
+) -> Result<usize, OutOfMemory> {
     let mut parts: usize = 0;
     for field in fields {
         parts = parts.saturating_add(wait_for(waiting, places, at, field)?);
@@ -78,7 +88,11 @@ fn wait_for_fields(waiting: &mut Waiting, places: &Places, at: usize, fields: &[
 }
 
 /// The places of the types in such an order. A type that contains itself isn't in it, nor one that has such a part.
-pub(crate) fn order_of(alloc: Global, types: &[TypeDef], places: &Places) -> Result<List<usize>, OutOfMemory> {
+pub(crate) fn order_of(
+    alloc: Global,
+    types: &[TypeDef],
+    places: &Places,
+) -> Result<List<usize>, OutOfMemory> {
     let mut waiting = Waiting::new(alloc, types.len())?;
     let mut order = List::new(alloc);
     for at in 0..types.len() {

@@ -221,7 +221,12 @@ fn nothing_known(alloc: Global, types: usize) -> Result<List<Option<Known>>, Out
 
 /// Lays out the types, first in this order. What comes out is the same for any order; where each type stands behind its parts,
 /// each is looked at twice at most.
-pub(crate) fn lay_out(alloc: Global, types: &[TypeDef], places: Places, order: &[usize]) -> Result<Table, OutOfMemory>
+pub(crate) fn lay_out(
+    alloc: Global,
+    types: &[TypeDef],
+    places: Places,
+    order: &[usize],
+) -> Result<Table, OutOfMemory>
     requires { ArePlaces types.now places }
     ensures { IfOk result (λ t. IsTable types.now t) }
 {

@@ -29,6 +29,7 @@ impl Model for Types {
 
     ghost use Rattle.ir_core.specs.contracts.module.TypeDef as def;
     ghost use Rattle.std.specs.Coded.{codes};
+
     ghost coded = { Prim.hlevel (codes, def.the_row.coded) };
 
     ghost invariant = { λ t. IsTable t.types t.table };
@@ -77,7 +78,11 @@ pub fn offset_of(types: &Types, ty: &Ty, path: &[i64]) -> Option<i64>
         None => Some(0),
         Some((first, rest)) => {
             let inner = walk(types.types.as_slice(), &types.table, ty, rest)?;
-            Some(first.wrapping_mul(stride(&types.table, ty)).wrapping_add(inner))
+            Some(
+                first
+                    .wrapping_mul(stride(&types.table, ty))
+                    .wrapping_add(inner),
+            )
         }
     }
 }

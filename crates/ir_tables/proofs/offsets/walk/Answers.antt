@@ -1,5 +1,5 @@
-use Rattle.std.proofs.Common.{◌≡◌, ◌+◌, get_or, pos, drop, ap, sym, ◌∙◌, rules}
-use Rattle.std.specs.Int.{int_wrap, w64, cast_signed}
+use Rattle.std.proofs.Common.{◌+◌, get_or, pos, drop, ap, ◌∙◌, rules}
+use Rattle.std.specs.Int.{w64, cast_signed}
 use Rattle.std.specs.Int.RustNames.{FitsSigned}
 use Rattle.std.proofs.lemmas.Int.{to_z-of_z}
 use Rattle.ir_tables.specs.Table.{table_parts}

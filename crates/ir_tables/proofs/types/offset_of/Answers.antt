@@ -1,4 +1,4 @@
-use Rattle.std.proofs.Common.{◌≡◌, ℤ, pos, ◌+ℤ◌, ◌*ℤ◌, List, Option, Some, None, option_map, ap, sym, ◌∙◌, subst, rules}
+use Rattle.std.proofs.Common.{◌≡◌, ℤ, pos, ◌+ℤ◌, ◌*ℤ◌, List, Some, None, option_map, ap, sym, ◌∙◌, subst, rules}
 use Rattle.std.specs.Int.{int_wrap, w64}
 use Rattle.std.specs.Int.RustNames.{FitsSigned}
 use Rattle.ir_core.specs.declared.module.TypeDef.{TypeDef}
