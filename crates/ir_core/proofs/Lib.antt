@@ -1,4 +1,4 @@
-pub mod Lexing
+pub mod Below
+pub mod Literals
 pub mod Off
-pub mod Printed
-pub mod Spelled
+pub mod Runs
