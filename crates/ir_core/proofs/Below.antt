@@ -42,8 +42,8 @@ dash_stem c cs w rest r n f e =
 
 -- no word, digits or string at the front are longer than this
 pub stem_bound : (c : ℕ) (cs w rest : List ℕ) → IsStem w → c ∷ cs ≡ w ++ rest → length w ≤ stem_size (class_of c) cs
-stem_bound c cs w rest (inl (inl r, n)) e = let b = led_bound Letter word_byte c cs w rest r e in subst (λ a. length w ≤ stem_size a cs) (sym b.0) b.1
-stem_bound c cs w rest (inl (inr r, n)) e = let b = dash_stem c cs w rest r n.0 n.1 e in subst (λ a. length w ≤ stem_size a cs) (sym b.0) b.1
+stem_bound c cs w rest (inl (inl r, n, f)) e = let b = led_bound Letter word_byte c cs w rest r e in subst (λ a. length w ≤ stem_size a cs) (sym b.0) b.1
+stem_bound c cs w rest (inl (inr r, n, f)) e = let b = dash_stem c cs w rest r n f e in subst (λ a. length w ≤ stem_size a cs) (sym b.0) b.1
 stem_bound c cs w rest (inr (inl r)) e = let b = led_bound Digit digit_byte c cs w rest r e in subst (λ a. length w ≤ stem_size a cs) (sym b.0) b.1
 stem_bound c cs w rest (inr (inr r)) e =
     let q = quoted_front c cs w rest r e in
@@ -52,8 +52,8 @@ stem_bound c cs w rest (inr (inr r)) e =
     subst (λ v. length w ≤ stem_size (class_of v) cs) (sym q.0) (omega arith)
 
 word_some : (w : List ℕ) → IsWord w → 0 < length w
-word_some w (inl r, n) = let l = ap length r.2 in omega arith
-word_some w (inr r, n) = let l = ap length r.2 in omega arith
+word_some w (inl r, n, f) = let l = ap length r.2 in omega arith
+word_some w (inr r, n, f) = let l = ap length r.2 in omega arith
 
 quoted_some : (w : List ℕ) → IsQuoted w → 0 < length w
 quoted_some w (inner, h, s) = let l = ap length s in omega arith
@@ -124,7 +124,7 @@ size_none kind m other z = ap (λ n. by_size kind n other) z
 pub name_made : (kind : TokenKind) (m : ℕ) → 0 < m → by_name kind m ≡ piece (Some kind) (m + 1)
 name_made kind m s = size_made kind m bad_piece s
 
-some_or_none : (m : ℕ) → (m ≡ 0) ⊎ (0 < m)
+pub some_or_none : (m : ℕ) → (m ≡ 0) ⊎ (0 < m)
 some_or_none zero = inl refl
 some_or_none (suc m) = inr (omega arith)
 
@@ -304,18 +304,21 @@ below_float c cs ys rest r e = let q = float_front c cs ys rest r e in by q.0 q.
 -- ---- what a letter begins
 
 -- a string behind a c
-c_text_parts : (c : ℕ) (cs : List ℕ) → 0 < c_text_size c cs → (ds : List ℕ) × (cs ≡ 34 ∷ ds)
+pub quoted_closed : (cs : List ℕ) → 0 < quoted_size cs → run no_quote cs < length cs
+quoted_closed cs l = by_test (nat_lt (run no_quote cs) (length cs)) (λ e. ltb-true (run no_quote cs) (length cs) e) (λ e. let z = if_false (nat_lt (run no_quote cs) (length cs)) (run no_quote cs + 2) 0 e in absurd (omega arith))
+
+pub c_text_parts : (c : ℕ) (cs : List ℕ) → 0 < c_text_size c cs → (c ≡ 99) × (ds : List ℕ) × (cs ≡ 34 ∷ ds) × (run no_quote ds < length ds)
 c_text_parts c [] l = absurd (omega arith)
-c_text_parts c (d ∷ ds) l = by (c == 99) (d == 34) refl l
+c_text_parts c (d ∷ ds) l = by (c == 99) (d == 34) refl refl l
   where
-    by : (b k : Bool) → (d == 34) ≡ k → 0 < cond b (cond k (quoted_size ds) 0) 0 → (es : List ℕ) × (d ∷ ds ≡ 34 ∷ es)
-    by true true e l = (ds, ap (λ x. x ∷ ds) (eqb-true d 34 e))
-    by true false e l = absurd (omega arith)
-    by false k e l = absurd (omega arith)
+    by : (b k : Bool) → (c == 99) ≡ b → (d == 34) ≡ k → 0 < cond b (cond k (quoted_size ds) 0) 0 → (c ≡ 99) × (es : List ℕ) × (d ∷ ds ≡ 34 ∷ es) × (run no_quote es < length es)
+    by true true f e l = (eqb-true c 99 f, ds, ap (λ x. x ∷ ds) (eqb-true d 34 e), quoted_closed ds l)
+    by true false f e l = absurd (omega arith)
+    by false k f e l = absurd (omega arith)
 
 -- so the c has no byte of a word behind it, and no colon
 c_text_alone : (c : ℕ) (cs : List ℕ) → 0 < c_text_size c cs → (run word_byte cs ≡ 0) × (class_at (drop (run word_byte cs) cs) ≡ Quote)
-c_text_alone c cs l = let q = c_text_parts c cs l in (ap (run word_byte) q.1, ap (λ (x : List ℕ). class_at (drop (run word_byte x) x)) q.1)
+c_text_alone c cs l = let q = c_text_parts c cs l in (ap (run word_byte) q.2, ap (λ (x : List ℕ). class_at (drop (run word_byte x) x)) q.2)
 
 letter_word : (c : ℕ) (cs ys rest : List ℕ) → Led Letter (Each word_byte) ys → c ∷ cs ≡ ys ++ rest → Below (plain_at (c ∷ cs)) (Some Word) (length ys)
 letter_word c cs ys rest r e =
@@ -347,8 +350,8 @@ below_c_text c cs ys rest (text, (inner, h, s), k) e =
     below_at (class_of c) Letter c cs (Some CText) (length ys) (ap class_of g) (subst (λ p. Below p (Some CText) (length ys)) (sym (size_made CText (c_text_size c cs) (word_piece cs) (omega arith))) (below_piece (Some CText) (length ys) (c_text_size c cs + 1) (omega arith) no_bad_c_text))
 
 below_word : (c : ℕ) (cs ys rest : List ℕ) → IsWord ys → c ∷ cs ≡ ys ++ rest → Below (plain_at (c ∷ cs)) (Some Word) (length ys)
-below_word c cs ys rest (inl r, n) e = letter_word c cs ys rest r e
-below_word c cs ys rest (inr r, n) e = dash_word c cs ys rest r n.0 n.1 e
+below_word c cs ys rest (inl r, n, f) e = letter_word c cs ys rest r e
+below_word c cs ys rest (inr r, n, f) e = dash_word c cs ys rest r n f e
 
 below_number : (c : ℕ) (cs ys rest : List ℕ) → IsNumber ys → c ∷ cs ≡ ys ++ rest → Below (plain_at (c ∷ cs)) (Some Number) (length ys)
 below_number c cs ys rest (inl r) e = below_digits c cs ys rest r e
@@ -372,8 +375,8 @@ text_label c cs w rest n r e l =
     below_at (class_of c) Quote c cs (Some Label) n (ap class_of q.0) (subst (λ p. Below p (Some Label) n) (sym (quote_made cs q.1)) (label_colon Text (class_at (drop (run no_quote cs + 1) cs)) n (run no_quote cs + 1 + 1) (omega arith) (ap class_at q.3)))
 
 below_stem : (c : ℕ) (cs w rest : List ℕ) (n : ℕ) → IsStem w → c ∷ cs ≡ w ++ 58 ∷ rest → n ≡ length w + 1 → Below (plain_at (c ∷ cs)) (Some Label) n
-below_stem c cs w rest n (inl (inl r, m)) e l = letter_label c cs w rest n r e l
-below_stem c cs w rest n (inl (inr r, m)) e l = dash_label c cs w rest n r m.0 m.1 e l
+below_stem c cs w rest n (inl (inl r, m, f)) e l = letter_label c cs w rest n r e l
+below_stem c cs w rest n (inl (inr r, m, f)) e l = dash_label c cs w rest n r m f e l
 below_stem c cs w rest n (inr (inl r)) e l = digits_label c cs w rest n r e l
 below_stem c cs w rest n (inr (inr r)) e l = text_label c cs w rest n r e l
 

@@ -23,7 +23,7 @@ pub neither : (cs : List ℕ) → after Neither cs ≡ Neither
 neither [] = refl
 neither (c ∷ cs) = neither cs
 
-lost : (p : Literal → Bool) → p Neither ≡ false → (cs : List ℕ) → p (after Neither cs) ≡ true → ⊥
+pub lost : (p : Literal → Bool) → p Neither ≡ false → (cs : List ℕ) → p (after Neither cs) ≡ true → ⊥
 lost p n cs h = let f : true ≡ false = sym h ∙ ap p (neither cs) ∙ n in cc
 
 -- by the tests of one step
@@ -261,7 +261,7 @@ exponent_float xs (inr (letter, sign, digits, (c, e, l), g, r, s)) =
     ∙ ap (λ q. is_float (after q (sign ++ digits))) (if_false (digit_byte c) Point _ (no_digit (codes "eE") c refl e) ∙ if_true (is_one_of (codes "eE") c) Exponent Neither e)
     ∙ signed_float sign digits g r
 
-no_number : IsNumber [] → ⊥
+pub no_number : IsNumber [] → ⊥
 no_number (inl r) = let f = r.2 in cc
 no_number (inr r) = let f = r.2 in cc
 
@@ -396,7 +396,7 @@ start_class Digit c cs h = inl refl
 start_class Dash c cs h = inr refl
 start_class _ c cs h = absurd (lost is_float refl cs h)
 
-no_float : IsFloat [] → ⊥
+pub no_float : IsFloat [] → ⊥
 no_float (inl (whole, digits, exponent, n, h, x, s)) = by whole (s ∙ pointed_row whole digits exponent)
   where
     by : (w : List ℕ) → [] ≡ w ++ 46 ∷ (digits ++ exponent) → ⊥
@@ -427,6 +427,3 @@ float_front c cs (y ∷ ys) rest r e =
     some : (xs : List ℕ) → is_float (course c xs) ≡ true → 0 < length xs
     some [] k = absurd (start_no_float (class_of c) c k)
     some (x ∷ xs) k = omega arith
-
-pub empty_no_float : IsFloat [] → ⊥
-empty_no_float = no_float

@@ -148,6 +148,25 @@ run_taken p (y ∷ ys) rest h =
     let q = run_taken p ys rest e.1 in
     (q.0, ap (λ n. take n (y ∷ (ys ++ rest))) (run_in p y (ys ++ rest) e.0) ∙ ap (λ (l : List ℕ). y ∷ l) q.1)
 
+pub every_taken : (p : ℕ → Bool) (n : ℕ) (xs : List ℕ) → every p xs ≡ true → every p (take n xs) ≡ true
+every_taken p zero xs h = refl
+every_taken p (suc n) [] h = refl
+every_taken p (suc n) (x ∷ xs) h = let e = every_first p x xs h in every_more p x (take n xs) e.0 (every_taken p n xs e.1)
+
+-- the byte that ends a run
+next_by : (p : ℕ → Bool) (c : ℕ) (cs : List ℕ) → run p (c ∷ cs) < length (c ∷ cs) → (run p cs < length cs → (d : ℕ) × (p d ≡ false) × (take (run p cs + 1) cs ≡ take (run p cs) cs ++ d ∷ [])) → (b : Bool) → p c ≡ b → (d : ℕ) × (p d ≡ false) × (take (run p (c ∷ cs) + 1) (c ∷ cs) ≡ take (run p (c ∷ cs)) (c ∷ cs) ++ d ∷ [])
+next_by p c cs l f true e =
+    let r = run_in p c cs e in
+    let q = f (omega arith) in
+    (q.0, q.1, ap (λ n. take n (c ∷ cs)) (let z : run p (c ∷ cs) + 1 ≡ suc (run p cs + 1) = omega arith in z) ∙ ap (λ (x : List ℕ). c ∷ x) q.2 ∙ ap (λ n. take n (c ∷ cs) ++ q.0 ∷ []) (sym r))
+next_by p c cs l f false e =
+    let r = run_out p c cs e in
+    (c, e, ap (λ n. take (n + 1) (c ∷ cs)) r ∙ ap (λ n. take n (c ∷ cs) ++ c ∷ []) (sym r))
+
+pub run_next : (p : ℕ → Bool) (cs : List ℕ) → run p cs < length cs → (d : ℕ) × (p d ≡ false) × (take (run p cs + 1) cs ≡ take (run p cs) cs ++ d ∷ [])
+run_next p [] l = absurd (omega arith)
+run_next p (c ∷ cs) l = next_by p c cs l (run_next p cs) (p c) refl
+
 -- ---- digits are bytes of words
 
 pub digit_class : (a : Class) → is_digit_class a ≡ true → a ≡ Digit
