@@ -159,7 +159,7 @@ below_mark m c cs ys rest (s, k) e =
 -- ---- digits
 
 -- a float literal that digits begin is longer than the digits
-float_longer : (c : ℕ) (cs : List ℕ) → class_of c ≡ Digit → 0 < longest is_float (literal_start Digit c) cs → run digit_byte cs < longest is_float (literal_start Digit c) cs
+pub float_longer : (c : ℕ) (cs : List ℕ) → class_of c ≡ Digit → 0 < longest is_float (literal_start Digit c) cs → run digit_byte cs < longest is_float (literal_start Digit c) cs
 float_longer c cs e s =
     let f = longest is_float (literal_start Digit c) cs in
     let front = take f cs in
