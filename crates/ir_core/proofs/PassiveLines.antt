@@ -1,7 +1,8 @@
 -- The passive line at the front of a text is the one that scanning finds.
 use Rattle.std.proofs.Common.{◌≡◌, ℕ, zero, suc, ◌+◌, ◌≤◌, ◌<◌, List, [], ◌∷◌, ◌++◌, length, take, drop, Contains, Bool, true, false, cond, not, ◌||◌, if◌then◌else◌, refl, sym, ap, ◌∙◌, subst, inl, inr, ◌⊎◌, arith, append_assoc, length-append, ◌==◌, nat_lt, codes, take_at}
 use Rattle.std.proofs.lemmas.List.{take-append-drop, length-take-le, take-take}
-use Rattle.std.proofs.lemmas.Bool.{eqb-true, eq-eqb, ltb-true, lt-ltb}
+use Rattle.std.proofs.lemmas.Bool.{ltb-true, lt-ltb}
+use Rattle.std.proofs.lemmas.Slice.Eq.{bytes_eq-Decides}
 use Rattle.ir_core.specs.Bytes.{Class, Blank, Semicolon, Bang, class_of, no_line_end, every}
 use Rattle.ir_core.specs.Tokens.{IsMeta, passive_fronts, IsPassiveFront, EndsInNoBlank, IsPassive}
 use Rattle.ir_core.specs.Scan.{run, class_at, meta_size, is_blank, is_gap, trimmed, begins_with, begins_with_one, is_meta_by, begins_with_meta, begins_passive, line_size, passive_size}
@@ -56,17 +57,10 @@ trimmed_is (c ∷ cs) l = trim_is_by c cs (trimmed cs) (trimmed_is cs) (is_blank
 -- ---- fronts
 
 begins_itself : (front rest : List ℕ) → begins_with front (front ++ rest) ≡ true
-begins_itself [] rest = refl
-begins_itself (c ∷ cs) rest = if_true (c == c) (begins_with cs (cs ++ rest)) false (eq-eqb c c refl) ∙ begins_itself cs rest
+begins_itself front rest = (bytes_eq-Decides front (take (length front) (front ++ rest))).1 (sym (take_at front rest (length front) refl))
 
 begins_is : (front xs : List ℕ) → begins_with front xs ≡ true → (rest : List ℕ) × (xs ≡ front ++ rest)
-begins_is [] xs h = (xs, refl)
-begins_is (c ∷ cs) [] h = absurd (let f : false ≡ true = h in cc)
-begins_is (c ∷ cs) (x ∷ xs) h = by (begins_is cs xs) (x == c) refl h
-  where
-    by : (begins_with cs xs ≡ true → (rest : List ℕ) × (xs ≡ cs ++ rest)) → (b : Bool) → (x == c) ≡ b → cond b (begins_with cs xs) false ≡ true → (rest : List ℕ) × (x ∷ xs ≡ (c ∷ cs) ++ rest)
-    by g true e k = let r = g k in (r.0, ap (λ v. v ∷ xs) (eqb-true x c e) ∙ ap (λ (l : List ℕ). c ∷ l) r.1)
-    by g false e k = absurd (let f : false ≡ true = k in cc)
+begins_is front xs h = (drop (length front) xs, sym (take-append-drop (length front) xs) ∙ ap (λ (l : List ℕ). l ++ drop (length front) xs) (sym ((bytes_eq-Decides front (take (length front) xs)).0 h)))
 
 one_begins : (fronts : List (List ℕ)) (front rest : List ℕ) → Contains fronts front → begins_with_one fronts (front ++ rest) ≡ true
 one_begins [] front rest (k, l, e) = absurd (omega arith)

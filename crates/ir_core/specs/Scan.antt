@@ -1,5 +1,6 @@
 -- The piece at the front of a text, as a function of its bytes from left to right.
 use Rattle.std.specs.Prelude.{◌≡◌, ℕ, ◌+◌, List, [], ◌∷◌, ◌++◌, length, take, drop, codes, Option, Some, None, Bool, true, false, ◌==◌, ◌||◌, nat_lt, if◌then◌else◌}
+use Rattle.std.specs.Str.{bytes_eq}
 use Rattle.ir_core.specs.Bytes.{Class, Blank, Semicolon, Bracket, Digit, Dash, Letter, Percent, AtSign, Colon, Quote, Hash, Bang, Other, class_of, is_one_of, word_byte, digit_byte, hex_byte, no_line_end, no_quote}
 use Rattle.ir_core.specs.Tokens.{TokenKind, Word, Local, Global, Label, Number, Float, Text, CText, Group, Meta, Mark, Passive, Bad, Token, Piece, Spot, text_start, is_outside, passive_fronts, Pieces, tokens_from}
 
@@ -171,9 +172,7 @@ trimmed [] = 0
 trimmed (c ∷ cs) = if nat_lt 0 (trimmed cs) then trimmed cs + 1 else if is_blank (class_of c) then 0 else 1
 
 abbrev pub begins_with : List ℕ → List ℕ → Bool
-begins_with [] xs = true
-begins_with (c ∷ cs) [] = false
-begins_with (c ∷ cs) (x ∷ xs) = if x == c then begins_with cs xs else false
+begins_with front xs = bytes_eq front (take (length front) xs)
 
 abbrev pub begins_with_one : List (List ℕ) → List ℕ → Bool
 begins_with_one [] xs = false
