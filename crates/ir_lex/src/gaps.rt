@@ -7,16 +7,22 @@ ghost use Rattle.ir_lex.specs.Scanned.{IsPlace, IsGap, BeginsToken};
 use crate::class::{Class, class_at};
 use memchr::memchr;
 
-/// A place in a text, and the line of the byte there, counted from 1.
+/// A place in a text.
 #[derive(Clone, Copy)]
 pub struct Place {
     pub at: usize,
+    /// The line of the byte there, counted from 1.
     pub line: u32,
+    /// How many braces are open.
+    pub depth: u32,
+    /// Whether blanks alone stand before it on its line.
+    pub first: bool,
 }
 
 /// How many bytes come before the end of the line.
-fn line_run(text: &[u8]) -> usize
-    ensures { result ≡ run no_line_end text.now }
+pub fn line_run(text: &[u8]) -> usize
+    ensures run_is { result ≡ run no_line_end text.now }
+    ensures within { result ≤ length text.now }
 {
     match memchr(b'\n', text) {
         Some(size) => size,
@@ -35,6 +41,8 @@ fn skip_comment(text: &[u8], start: Place) -> Place
     Place {
         at: start.at + line_run(&text[start.at..]),
         line: start.line,
+        depth: start.depth,
+        first: start.first,
     }
 }
 
@@ -63,9 +71,12 @@ fn skip_blanks(text: &[u8], start: Place) -> Place
 {
     let mut place = start;
     'blanks: while is_blank_at(text, place.at) {
+        let byte = text[place.at];
         place = Place {
             at: place.at + 1,
-            line: line_after(text[place.at], place.line),
+            line: line_after(byte, place.line),
+            depth: place.depth,
+            first: byte == b'\n' || place.first,
         };
     }
     place
