@@ -1,5 +1,5 @@
 //! What stands between tokens: blanks and comments.
-ghost use Rattle.std.specs.Prelude.{◌≡◌, ◌<◌, ◌≤◌, ◌^◌, ◌+◌, length, drop, ◌==◌, if◌then◌else◌, IsTrue, ◌↔◌};
+ghost use Rattle.std.specs.Prelude.{◌≡◌, ◌<◌, ◌≤◌, ◌^◌, ◌+◌, length, drop, ◌==◌, true, if◌then◌else◌, IsTrue, ◌↔◌};
 ghost use Rattle.ir_core.specs.Bytes.{no_line_end, Blank as BlankByte, Semicolon as SemicolonByte};
 ghost use Rattle.ir_core.specs.Scan.{run, class_at};
 ghost use Rattle.ir_lex.specs.Scanned.{IsPlace, IsGap, BeginsToken};
@@ -54,6 +54,13 @@ fn line_after(byte: u8, line: u32) -> u32
     if byte == b'\n' { line + 1 } else { line }
 }
 
+/// Whether blanks alone stand before what is behind a blank on its line.
+fn first_after(byte: u8, first: bool) -> bool
+    ensures { result ≡ (if byte == 10 then true else first) }
+{
+    if byte == b'\n' { true } else { first }
+}
+
 /// Whether a blank stands at a place.
 #[inline]
 fn is_blank_at(text: &[u8], at: usize) -> bool
@@ -76,7 +83,7 @@ fn skip_blanks(text: &[u8], start: Place) -> Place
             at: place.at + 1,
             line: line_after(byte, place.line),
             depth: place.depth,
-            first: byte == b'\n' || place.first,
+            first: first_after(byte, place.first),
         };
     }
     place

@@ -1,5 +1,5 @@
 //! Numbers and float literals, byte by byte (LLVM Language Reference, "Simple Constants").
-ghost use Rattle.std.specs.Prelude.{◌≡◌, ◌≤◌, length, if◌then◌else◌};
+ghost use Rattle.std.specs.Prelude.{◌≡◌, ◌≤◌, length, if◌then◌else◌, IsTrue, ◌↔◌};
 ghost use Rattle.ir_core.specs.Bytes.{hex_byte};
 ghost use Rattle.ir_core.specs.Scan.{is_float, is_no_literal, longest};
 ghost use Rattle.ir_core.specs.Scan as scan;
@@ -144,6 +144,13 @@ fn literal_step(literal: Literal, byte: u8) -> Literal
     }
 }
 
+/// Whether nothing that follows makes it a literal.
+fn is_over(literal: Literal) -> bool
+    ensures { IsTrue result ↔ (literal_seen literal ≡ scan.Neither) }
+{
+    matches!(literal, Literal::Neither)
+}
+
 /// Whether a float literal can end so.
 fn is_float(literal: Literal) -> bool
     ensures { result ≡ is_float (literal_seen literal) }
@@ -169,7 +176,7 @@ pub fn float_size(text: &[u8], start: Literal) -> usize
     let mut literal = start;
     let mut size = 0;
     let mut n = 0;
-    'bytes: while n < text.len() && !matches!(literal, Literal::Neither) {
+    'bytes: while n < text.len() && !is_over(literal) {
         literal = literal_step(literal, text[n]);
         n += 1;
         if is_float(literal) {

@@ -1,10 +1,17 @@
 //! Passive lines: lines outside braces that are kept whole.
 ghost use Rattle.std.specs.Prelude.{◌≡◌, ◌≤◌, ◌<◌, ◌^◌, length};
-ghost use Rattle.ir_core.specs.Scan.{trimmed, begins_with, begins_with_meta, begins_passive, line_size, passive_size};
+ghost use Rattle.ir_core.specs.Bytes.{class_of};
+ghost use Rattle.ir_core.specs.Scan.{is_blank, trimmed, begins_with, begins_with_meta, begins_passive, line_size, passive_size};
 
 use crate::class::{Class, byte_class};
 use crate::gaps::line_run;
 use crate::scan::meta_size;
+
+fn is_blank(byte: u8) -> bool
+    ensures { result ≡ is_blank (class_of byte) }
+{
+    matches!(byte_class(byte), Class::Blank)
+}
 
 /// How many bytes are left without the blanks at the end.
 fn trimmed(line: &[u8]) -> usize
@@ -12,7 +19,7 @@ fn trimmed(line: &[u8]) -> usize
     ensures within { result ≤ length line.now }
 {
     let mut size = line.len();
-    'blanks: while 0 < size && matches!(byte_class(line[size - 1]), Class::Blank) {
+    'blanks: while 0 < size && is_blank(line[size - 1]) {
         size -= 1;
     }
     size

@@ -1,7 +1,7 @@
 //! From a token to the place behind it.
-ghost use Rattle.std.specs.Prelude.{◌≡◌, ◌+◌, ◌<◌, ◌≤◌, ◌^◌, length, take, drop, Some};
+ghost use Rattle.std.specs.Prelude.{◌≡◌, ◌+◌, ◌<◌, ◌≤◌, ◌^◌, length, take, drop, Some, false};
 ghost use Rattle.ir_core.specs.Tokens.{line_ends, open_behind, is_outside};
-ghost use Rattle.ir_core.specs.Scan.{by_passive, piece_at};
+ghost use Rattle.ir_core.specs.Scan.{class_at, is_gap, by_passive, piece_at};
 ghost use Rattle.ir_lex.specs.Seen.{kind_seen};
 ghost use Rattle.ir_lex.specs.Scanned.{piece_seen, spot_seen, BeginsToken, IsPlace, IsBehind};
 
@@ -31,6 +31,20 @@ fn by_passive(size: usize, other: Piece) -> Piece
     }
 }
 
+/// The token at the front of a text that begins at a place.
+fn piece_at(rest: &[u8], place: Place) -> Piece
+    requires room { length rest.now < 2 ^ 32 }
+    requires begins { is_gap (class_at rest.now) ≡ false }
+    ensures { piece_seen result ≡ piece_at (spot_seen place) rest.now }
+{
+    let token = token_piece(rest);
+    if is_outside(place) {
+        by_passive(passive_size(rest), token)
+    } else {
+        token
+    }
+}
+
 /// The token that begins at a place.
 pub fn token_at(text: &[u8], place: Place) -> Piece
     requires room { length text.now < 2 ^ 32 }
@@ -40,13 +54,7 @@ pub fn token_at(text: &[u8], place: Place) -> Piece
     ensures some { 0 < result.size }
     ensures within { place.at + result.size ≤ length text.now }
 {
-    let rest = &text[place.at..];
-    let token = token_piece(rest);
-    if is_outside(place) {
-        by_passive(passive_size(rest), token)
-    } else {
-        token
-    }
+    piece_at(&text[place.at..], place)
 }
 
 /// How many line ends there are.
