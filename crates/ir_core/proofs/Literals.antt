@@ -337,7 +337,7 @@ pub longest_fits : (p : Literal → Bool) (q : Literal) (cs : List ℕ) → long
 longest_fits p q [] = omega arith
 longest_fits p q (c ∷ cs) = long_fits_by (longest p (literal_step q c) cs) (length cs) (longest_fits p (literal_step q c) cs) (p (literal_step q c)) (nat_lt 0 (longest p (literal_step q c) cs))
 
-longest_lost : (p : Literal → Bool) → p Neither ≡ false → (cs : List ℕ) → longest p Neither cs ≡ 0
+pub longest_lost : (p : Literal → Bool) → p Neither ≡ false → (cs : List ℕ) → longest p Neither cs ≡ 0
 longest_lost p n [] = refl
 longest_lost p n (c ∷ cs) = ap (λ m. cond (nat_lt 0 m) (m + 1) (cond (p Neither) 1 0)) (longest_lost p n cs) ∙ ap (λ h. cond h 1 0) n
 

@@ -599,6 +599,9 @@ regroup_outer a b rest la lb ms r = subst (λ t. Outer t ((la ++ lb) ++ ms)) (sy
 pub closes_as : {a : List ℕ} {ls ms : List Bare} → ls ≡ ms → Closes a ls → Closes a ms
 closes_as {a} e x = subst (Closes a) e x
 
+pub inner_as : {a : List ℕ} {ls ms : List Bare} → ls ≡ ms → Inner a ls → Inner a ms
+inner_as {a} e x = subst (Inner a) e x
+
 pub lines_as : {a : List ℕ} {ls ms : List Bare} → ls ≡ ms → OnLines a ls → OnLines a ms
 lines_as {a} e x = subst (OnLines a) e x
 

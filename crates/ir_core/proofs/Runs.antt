@@ -153,6 +153,10 @@ every_taken p zero xs h = refl
 every_taken p (suc n) [] h = refl
 every_taken p (suc n) (x ∷ xs) h = let e = every_first p x xs h in every_more p x (take n xs) e.0 (every_taken p n xs e.1)
 
+pub every_append : (p : ℕ → Bool) (xs ys : List ℕ) → every p xs ≡ true → every p ys ≡ true → every p (xs ++ ys) ≡ true
+every_append p [] ys h k = k
+every_append p (x ∷ xs) ys h k = let e = every_first p x xs h in every_more p x (xs ++ ys) e.0 (every_append p xs ys e.1 k)
+
 -- the byte that ends a run
 next_by : (p : ℕ → Bool) (c : ℕ) (cs : List ℕ) → run p (c ∷ cs) < length (c ∷ cs) → (run p cs < length cs → (d : ℕ) × (p d ≡ false) × (take (run p cs + 1) cs ≡ take (run p cs) cs ++ d ∷ [])) → (b : Bool) → p c ≡ b → (d : ℕ) × (p d ≡ false) × (take (run p (c ∷ cs) + 1) (c ∷ cs) ≡ take (run p (c ∷ cs)) (c ∷ cs) ++ d ∷ [])
 next_by p c cs l f true e =
