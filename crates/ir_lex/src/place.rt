@@ -1,13 +1,13 @@
 //! From a token to the place behind it.
 ghost use Rattle.std.specs.Prelude.{◌≡◌, ◌+◌, ◌<◌, ◌≤◌, ◌^◌, length, take, drop, Some, false};
 ghost use Rattle.ir_core.specs.Tokens.{line_ends, open_behind, is_outside};
-ghost use Rattle.ir_core.specs.Scan.{class_at, is_gap, by_passive, piece_at};
+ghost use Rattle.ir_core.specs.Scan.{class_at, is_gap, plain_at, by_passive, passive_size, piece_at};
 ghost use Rattle.ir_lex.specs.Seen.{kind_seen};
 ghost use Rattle.ir_lex.specs.Scanned.{piece_seen, spot_seen, BeginsToken, IsPlace, IsBehind};
 
 use crate::gaps::Place;
 use crate::passive::passive_size;
-use crate::scan::{Piece, token_piece};
+use crate::scan::{Piece, make_piece, token_piece};
 use crate::token::TokenKind;
 
 /// Whether a passive line may stand at a place.
@@ -17,17 +17,17 @@ fn is_outside(place: Place) -> bool
     place.first && place.depth == 0
 }
 
-/// A passive line of this size, or, where it has none, the other token.
-fn by_passive(size: usize, other: Piece) -> Piece
-    ensures { piece_seen result ≡ by_passive size (piece_seen other) }
+/// The passive line at the front of a text, or else the token there.
+fn outside_piece(rest: &[u8]) -> Piece
+    requires room { length rest.now < 2 ^ 32 }
+    requires begins { is_gap (class_at rest.now) ≡ false }
+    ensures { piece_seen result ≡ by_passive (passive_size rest.now) (plain_at rest.now) }
 {
+    let size = passive_size(rest);
     if size == 0 {
-        other
+        token_piece(rest)
     } else {
-        Piece {
-            kind: TokenKind::Passive,
-            size,
-        }
+        make_piece(TokenKind::Passive, size)
     }
 }
 
@@ -37,11 +37,10 @@ fn piece_at(rest: &[u8], place: Place) -> Piece
     requires begins { is_gap (class_at rest.now) ≡ false }
     ensures { piece_seen result ≡ piece_at (spot_seen place) rest.now }
 {
-    let token = token_piece(rest);
     if is_outside(place) {
-        by_passive(passive_size(rest), token)
+        outside_piece(rest)
     } else {
-        token
+        token_piece(rest)
     }
 }
 

@@ -136,7 +136,8 @@ fn c_text_size(first: u8, text: &[u8]) -> usize
     }
 }
 
-fn make_piece(kind: TokenKind, size: usize) -> Piece
+/// A token of this kind and size.
+pub fn make_piece(kind: TokenKind, size: usize) -> Piece
     ensures { piece_seen result ≡ piece (Some (kind_seen kind)) size }
 {
     Piece { kind, size }
