@@ -1,12 +1,12 @@
 -- But for passive lines, no piece at the front of a text is longer than the one that scanning finds there.
 use Rattle.std.proofs.Common.{◌≡◌, ℕ, zero, suc, ◌+◌, ◌≤◌, ◌<◌, List, [], ◌∷◌, ◌++◌, length, take, drop, Option, Some, None, Bool, true, false, cond, refl, sym, ap, ◌∙◌, subst, inl, inr, ◌⊎◌, arith, append_assoc, length-append, ◌==◌, nat_lt, codes, take_at, drop_at}
 use Rattle.std.proofs.lemmas.List.{take-append-drop, length-take-le}
-use Rattle.std.proofs.lemmas.Bool.{eqb-true, eq-eqb, ltb-true, lt-ltb}
-use Rattle.ir_core.specs.Bytes.{Class, Blank, Semicolon, Bracket, Digit, Dash, Letter, Percent, AtSign, Colon, Quote, Hash, Bang, Other, class_of, is_word_class, is_digit_class, word_byte, digit_byte, no_line_end, no_quote, every}
-use Rattle.ir_core.specs.Tokens.{TokenKind, Word, Local, Global, Label, Number, Float, Text, CText, Group, Meta, Mark, Passive, Bad, Past, Led, Nothing, Each, IsDigits, IsNumber, IsFloat, IsWord, IsQuoted, IsStem, IsLabel, IsMeta, IsPlain, Piece}
-use Rattle.ir_core.specs.Scan.{Literal, Minus, literal_start, is_whole, is_float, is_no_literal, longest, run, class_at, piece, bad_piece, is_number_tail, quoted_size, stem_size, name_size, meta_size, c_text_size, by_colon, by_size, by_name, by_tail, word_piece, digits_piece, dash_piece, quote_piece, by_class, plain_at}
-use Rattle.ir_core.proofs.Runs.{by_test, if_true, if_false, quote_byte, colon_byte, run_fits, run_bound, run_front, run_ended, run_taken, every_first, digit_class, is_digits, digits_some, digits_every, digits_in_word, tail_true, tail_less, led_tail, single, led_bound, led_ended, led_class}
-use Rattle.ir_core.proofs.Literals.{after, course, course_float, course_number, number_course, float_course, longest_bound, longest_is, longest_fits, longest_stops, colon_stops, whole_no_float, no_literal, float_front}
+use Rattle.std.proofs.lemmas.Bool.{eqb-true, ltb-true, lt-ltb}
+use Rattle.ir_core.specs.Bytes.{Class, Blank, Semicolon, Bracket, Digit, Dash, Letter, Percent, AtSign, Colon, Quote, Hash, Bang, class_of, word_byte, digit_byte, no_line_end, no_quote, every}
+use Rattle.ir_core.specs.Tokens.{TokenKind, Word, Local, Global, Label, Number, Float, Text, CText, Group, Meta, Mark, Passive, Bad, Past, Led, Each, IsDigits, IsNumber, IsFloat, IsWord, IsQuoted, IsStem, IsLabel, IsMeta, IsPlain, Piece}
+use Rattle.ir_core.specs.Scan.{Minus, literal_start, is_whole, is_float, is_no_literal, longest, run, class_at, piece, bad_piece, is_number_tail, quoted_size, stem_size, name_size, meta_size, c_text_size, by_colon, by_size, by_name, by_tail, word_piece, digits_piece, dash_piece, quote_piece, by_class, plain_at}
+use Rattle.ir_core.proofs.Runs.{by_test, if_true, if_false, run_bound, run_front, run_ended, run_taken, is_digits, digits_some, digits_every, digits_in_word, tail_true, tail_less, led_tail, single, led_bound, led_ended}
+use Rattle.ir_core.proofs.Literals.{after, course_float, number_course, longest_bound, longest_is, longest_fits, longest_stops, colon_stops, whole_no_float, no_literal, float_front}
 
 -- ---- quoted strings
 
@@ -166,8 +166,8 @@ float_longer c cs e s =
     let k = longest_is is_float (literal_start Digit c) cs s in
     let t = length-take-le f cs (longest_fits is_float (literal_start Digit c) cs) in
     let no : f ≤ run digit_byte cs → ⊥ = λ l.
-        let d = run_front digit_byte front (drop f cs) (subst (λ (x : List ℕ). length front ≤ run digit_byte x) (sym (take-append-drop f cs)) (omega arith)) in
-        whole_no_float (after (literal_start Digit c) front) (sym (ap (λ a. is_whole (after (literal_start a c) front)) e) ∙ number_course c front (inl (c, front, refl, e, d))) k in
+    let d = run_front digit_byte front (drop f cs) (subst (λ (x : List ℕ). length front ≤ run digit_byte x) (sym (take-append-drop f cs)) (omega arith)) in
+    whole_no_float (after (literal_start Digit c) front) (sym (ap (λ a. is_whole (after (literal_start a c) front)) e) ∙ number_course c front (inl (c, front, refl, e, d))) k in
     omega arith
 
 below_digits : (c : ℕ) (cs ys rest : List ℕ) → IsDigits ys → c ∷ cs ≡ ys ++ rest → Below (plain_at (c ∷ cs)) (Some Number) (length ys)
@@ -200,8 +200,8 @@ below_dash : (f : ℕ) (cs : List ℕ) (kind : Option TokenKind) (n : ℕ) → (
 below_dash f cs kind n g h = by_test (nat_lt f (run word_byte cs))
     (λ e. subst (λ p. Below p kind n) (sym (if_true (nat_lt f (run word_byte cs)) (by_tail (is_number_tail cs) cs) (by_size Float f (by_tail (is_number_tail cs) cs)) e)) (g (inl (ltb-true f (run word_byte cs) e))))
     (λ e.
-        let l : f < run word_byte cs → ⊥ = λ m. let k : true ≡ false = sym (lt-ltb f (run word_byte cs) m) ∙ e in cc in
-        subst (λ p. Below p kind n) (sym (if_false (nat_lt f (run word_byte cs)) (by_tail (is_number_tail cs) cs) (by_size Float f (by_tail (is_number_tail cs) cs)) e)) (below_size Float f (by_tail (is_number_tail cs) cs) kind n (λ z. g (inr z)) (λ s. h (omega arith) s)))
+    let l : f < run word_byte cs → ⊥ = λ m. let k : true ≡ false = sym (lt-ltb f (run word_byte cs) m) ∙ e in cc in
+    subst (λ p. Below p kind n) (sym (if_false (nat_lt f (run word_byte cs)) (by_tail (is_number_tail cs) cs) (by_size Float f (by_tail (is_number_tail cs) cs)) e)) (below_size Float f (by_tail (is_number_tail cs) cs) kind n (λ z. g (inr z)) (λ s. h (omega arith) s)))
 
 -- what is as long as the float literal there is one
 same_float : (cs ds rest : List ℕ) → cs ≡ ds ++ rest → 0 < longest is_float Minus cs → length ds ≡ longest is_float Minus cs → is_float (after Minus ds) ≡ true
@@ -237,8 +237,8 @@ dash_word c cs ys rest r n f e =
     below_at (class_of c) Dash c cs (Some Word) (length ys) t.0 (below_dash (longest is_float Minus cs) cs (Some Word) (length ys)
     (λ m. dash_word_by cs (length ys) (is_number_tail cs) refl (dash_bound_by c cs ys rest r n e (is_number_tail cs) refl))
     (λ l s. below_other (Some Word) (Some Float) (length ys) (longest is_float Minus cs + 1) (omega arith)
-        (λ q. f (subst IsFloat (sym r.2) (course_float r.0 r.1 (ap (λ a. is_float (after (literal_start a r.0) r.1)) r.3 ∙ same_float cs r.1 rest t.1 s (omega arith)))))
-        no_bad_float))
+    (λ q. f (subst IsFloat (sym r.2) (course_float r.0 r.1 (ap (λ a. is_float (after (literal_start a r.0) r.1)) r.3 ∙ same_float cs r.1 rest t.1 s (omega arith)))))
+    no_bad_float))
 
 dash_number_by : (cs : List ℕ) (n : ℕ) → 0 < run digit_byte cs → n ≤ run digit_byte cs + 1 → (b : Bool) → is_number_tail cs ≡ b → Below (by_tail b cs) (Some Number) n
 dash_number_by cs n s l true e = below_piece (Some Number) n (run digit_byte cs + 1) l no_bad_number
@@ -254,8 +254,8 @@ dash_number c cs ys rest r e =
     below_at (class_of c) Dash c cs (Some Number) (length ys) t.0 (below_dash (longest is_float Minus cs) cs (Some Number) (length ys)
     (λ m. dash_number_by cs (length ys) (omega arith) (omega arith) (is_number_tail cs) refl)
     (λ l s. below_other (Some Number) (Some Float) (length ys) (longest is_float Minus cs + 1) (omega arith)
-        (λ q. whole_no_float (after Minus r.1) (sym (ap (λ a. is_whole (after (literal_start a r.0) r.1)) r.3) ∙ number_course r.0 r.1 (inr (r.0, r.1, refl, r.3, r.4))) (same_float cs r.1 rest t.1 s (omega arith)))
-        no_bad_float))
+    (λ q. whole_no_float (after Minus r.1) (sym (ap (λ a. is_whole (after (literal_start a r.0) r.1)) r.3) ∙ number_course r.0 r.1 (inr (r.0, r.1, refl, r.3, r.4))) (same_float cs r.1 rest t.1 s (omega arith)))
+    no_bad_float))
 
 dash_float_by : (cs : List ℕ) (n : ℕ) → n < run word_byte cs + 1 → (b : Bool) → is_number_tail cs ≡ b → Below (by_tail b cs) (Some Float) n
 dash_float_by cs n l true e = let k = tail_true cs e in let k1 = k.1 in below_longer (Some Float) (Some Number) n (run digit_byte cs + 1) (omega arith) no_bad_number
@@ -414,10 +414,12 @@ meta_behind cs w rest (inr s) e =
 meta_behind [] w rest (inl r) e = no_front w rest (stem_some w r) e
 meta_behind (c ∷ cs) w rest (inl r) e =
     let b = stem_bound c cs w rest r e in
-    let s = stem_some w r in
-    (s, by_test (c == 123)
-      (λ h. let z : stem_size (class_of c) cs ≡ 0 = ap (λ v. stem_size (class_of v) cs) (eqb-true c 123 h) in absurd (omega arith))
-      (λ h. subst (λ n. length w ≤ n) (sym (if_false (c == 123) 1 (stem_size (class_of c) cs) h)) b))
+    let s = stem_some w r in (
+      s,
+      by_test (c == 123)
+          (λ h. let z : stem_size (class_of c) cs ≡ 0 = ap (λ v. stem_size (class_of v) cs) (eqb-true c 123 h) in absurd (omega arith))
+          (λ h. subst (λ n. length w ≤ n) (sym (if_false (c == 123) 1 (stem_size (class_of c) cs) h)) b),
+    )
 
 pub meta_front : (c : ℕ) (cs ys rest : List ℕ) → IsMeta ys → c ∷ cs ≡ ys ++ rest → (class_of c ≡ Bang) × (0 < meta_size cs) × (length ys ≤ meta_size cs + 1)
 meta_front c cs ys rest r e =

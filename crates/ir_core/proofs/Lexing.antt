@@ -1,5 +1,5 @@
 -- The piece that `piece_at` gives is the one that stands at the front of a text.
-use Rattle.std.proofs.Common.{◌≡◌, ℕ, zero, suc, ◌+◌, ◌-◌, ◌≤◌, ◌<◌, List, [], ◌∷◌, ◌++◌, length, take, drop, Option, Some, None, Bool, true, false, cond, refl, sym, ap, ◌∙◌, subst, inl, inr, ◌⊎◌, arith, append_assoc, length-append, length-drop, get_or, ◌==◌, ◌&&◌, take-add, drop-cons}
+use Rattle.std.proofs.Common.{◌≡◌, ℕ, zero, suc, ◌+◌, ◌-◌, ◌≤◌, ◌<◌, List, [], ◌∷◌, ◌++◌, length, take, drop, Option, Some, None, Bool, true, false, cond, refl, sym, ap, ◌∙◌, subst, inl, inr, ◌⊎◌, arith, append_assoc, length-drop, get_or, ◌==◌, ◌&&◌, take-add, drop-cons}
 use Rattle.std.proofs.lemmas.List.{append-nil, drop-drop, take-append-drop, take-append-le, length-take-le}
 use Rattle.std.proofs.lemmas.Bool.{eqb-true}
 use Rattle.std.specs.Str.{bytes_eq}
@@ -85,8 +85,8 @@ shorter spot text ys rest o s n e =
     let m = passive_size text in
     let p = passive_is text s in
     let no : m ≤ length ys → ⊥ = λ l.
-        let t : take m text ≡ take m ys = ap (take m) e ∙ take-append-le m ys rest l in
-        n o (take m text) (drop m ys) p.1 (sym (take-append-drop m ys) ∙ ap (λ (x : List ℕ). x ++ drop m ys) (sym t)) in
+    let t : take m text ≡ take m ys = ap (take m) e ∙ take-append-le m ys rest l in
+    n o (take m text) (drop m ys) p.1 (sym (take-append-drop m ys) ∙ ap (λ (x : List ℕ). x ++ drop m ys) (sym t)) in
     omega arith
 
 below_inside : (spot : Spot) (kind : Option TokenKind) (c : ℕ) (cs ys rest : List ℕ) → is_outside spot ≡ false → Is spot kind ys → c ∷ cs ≡ ys ++ rest → Below (piece_at spot (c ∷ cs)) kind (length ys)

@@ -1,8 +1,8 @@
 -- Numbers and float literals are what the literal's course comes to.
-use Rattle.std.proofs.Common.{◌≡◌, ℕ, zero, suc, ◌+◌, ◌≤◌, ◌<◌, List, [], ◌∷◌, ◌++◌, length, take, Bool, true, false, cond, not, refl, sym, ap, ◌∙◌, subst, inl, inr, ◌⊎◌, arith, codes, ◌==◌, nat_lt, append_assoc}
+use Rattle.std.proofs.Common.{◌≡◌, ℕ, suc, ◌+◌, ◌≤◌, ◌<◌, List, [], ◌∷◌, ◌++◌, length, take, Bool, true, false, cond, not, refl, sym, ap, ◌∙◌, subst, inl, inr, ◌⊎◌, arith, codes, ◌==◌, nat_lt, append_assoc}
 use Rattle.std.proofs.lemmas.Bool.{eqb-true, ltb-true, lt-ltb}
-use Rattle.ir_core.specs.Bytes.{Class, Blank, Semicolon, Bracket, Digit, Dash, Letter, Percent, AtSign, Colon, Quote, Hash, Bang, Other, class_of, is_one_of, is_digit_class, digit_byte, hex_byte, every}
-use Rattle.ir_core.specs.Tokens.{Led, Nothing, Each, OneOf, IsDigits, IsNumber, IsExponent, IsPointed, IsHexadecimal, IsFloat}
+use Rattle.ir_core.specs.Bytes.{Class, Digit, Dash, class_of, is_one_of, is_digit_class, digit_byte, hex_byte, every}
+use Rattle.ir_core.specs.Tokens.{Led, Nothing, Each, OneOf, IsDigits, IsNumber, IsExponent, IsPointed, IsFloat}
 use Rattle.ir_core.specs.Scan.{Literal, Minus, Zero, Whole, Point, Exponent, Sign, Power, Prefix, Format, Hexadecimal, Neither, literal_start, literal_step, is_whole, is_float, is_no_literal, longest}
 use Rattle.ir_core.proofs.Runs.{by_test, if_true, if_false, every_first, every_more, one_of, digit_class, led_class, led_rest}
 

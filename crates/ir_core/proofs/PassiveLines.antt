@@ -1,12 +1,12 @@
 -- The passive line at the front of a text is the one that scanning finds.
-use Rattle.std.proofs.Common.{◌≡◌, ℕ, zero, suc, ◌+◌, ◌≤◌, ◌<◌, List, [], ◌∷◌, ◌++◌, length, take, drop, Contains, Bool, true, false, cond, not, ◌||◌, if◌then◌else◌, refl, sym, ap, ◌∙◌, subst, inl, inr, ◌⊎◌, arith, append_assoc, length-append, ◌==◌, nat_lt, codes, take_at}
+use Rattle.std.proofs.Common.{◌≡◌, ℕ, zero, suc, ◌+◌, ◌≤◌, ◌<◌, List, [], ◌∷◌, ◌++◌, length, take, drop, Contains, Bool, true, false, cond, not, ◌||◌, if◌then◌else◌, refl, sym, ap, ◌∙◌, subst, inl, inr, ◌⊎◌, arith, append_assoc, length-append, nat_lt, take_at}
 use Rattle.std.proofs.lemmas.List.{take-append-drop, length-take-le, take-take}
 use Rattle.std.proofs.lemmas.Bool.{ltb-true, lt-ltb}
 use Rattle.std.proofs.lemmas.Slice.Eq.{bytes_eq-Decides}
-use Rattle.ir_core.specs.Bytes.{Class, Blank, Semicolon, Bang, class_of, no_line_end, every}
+use Rattle.ir_core.specs.Bytes.{Class, Blank, Bang, class_of, no_line_end, every}
 use Rattle.ir_core.specs.Tokens.{IsMeta, passive_fronts, IsPassiveFront, EndsInNoBlank, IsPassive}
 use Rattle.ir_core.specs.Scan.{run, class_at, meta_size, is_blank, is_gap, trimmed, begins_with, begins_with_one, is_meta_by, begins_with_meta, begins_passive, line_size, passive_size}
-use Rattle.ir_core.proofs.Runs.{by_test, if_true, if_false, run_fits, run_bound, run_every, run_taken, every_taken}
+use Rattle.ir_core.proofs.Runs.{if_true, run_fits, run_every, run_taken, every_taken}
 use Rattle.ir_core.proofs.Below.{meta_front}
 use Rattle.ir_core.proofs.Standing.{meta_is}
 

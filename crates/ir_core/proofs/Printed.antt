@@ -1,14 +1,14 @@
 -- The tokens of a printed text, without their places and lines, found from its end to its front.
-use Rattle.std.proofs.Common.{◌≡◌, ℕ, zero, suc, ◌+◌, ◌-◌, ◌≤◌, ◌<◌, List, [], ◌∷◌, ◌++◌, length, take, drop, map, Option, Some, None, Bool, true, false, cond, not, ◌&&◌, ◌||◌, ◌==◌, refl, sym, ap, ◌∙◌, subst, inl, inr, ◌⊎◌, arith, append_assoc, length-append, take_at, drop_at, codes, nat_lt}
+use Rattle.std.proofs.Common.{◌≡◌, ℕ, zero, suc, ◌+◌, ◌-◌, ◌≤◌, ◌<◌, List, [], ◌∷◌, ◌++◌, length, take, drop, map, Option, Some, None, Bool, true, false, cond, not, ◌||◌, ◌==◌, refl, sym, ap, ◌∙◌, subst, inl, inr, ◌⊎◌, arith, append_assoc, length-append, take_at, drop_at, codes, nat_lt}
 use Rattle.std.specs.List.{flat_map}
-use Rattle.std.proofs.lemmas.List.{append-nil, drop-drop, take_all, take-append-drop, length-take-le}
+use Rattle.std.proofs.lemmas.List.{append-nil, drop-drop, take_all}
 use Rattle.std.proofs.lemmas.Bool.{eqb-true, le-ltb, lt-ltb}
-use Rattle.ir_core.specs.Bytes.{Class, Blank, Bracket, Digit, Dash, Letter, Colon, blanks, marks, class_of, is_one_of, is_word_class, is_digit_class, word_byte, digit_byte, every}
+use Rattle.ir_core.specs.Bytes.{Class, Bracket, Digit, Dash, Letter, Colon, blanks, marks, class_of, is_one_of, is_word_class, is_digit_class, word_byte, digit_byte, every}
 use Rattle.ir_core.specs.Tokens.{TokenKind, Word, Local, Global, Label, Number, Float, CText, Mark, Bad, Token, Spot, text_start, is_outside, behind, Piece, Pieces, kept, tokens_from, text_limit, past_limit, Lexes, Lexeme, lexemes}
 use Rattle.ir_core.specs.Scan.{Literal, Minus, Zero, Whole, Point, Exponent, Sign, Power, Prefix, Format, Hexadecimal, Neither, literal_start, literal_step, is_whole, is_float, is_no_literal, longest, run, class_at, piece, is_number_tail, name_size, stem_size, c_text_size, quoted_size, by_colon, by_size, by_name, by_tail, word_piece, digits_piece, dash_piece, by_class, plain_at, line_size, passive_size, begins_passive, piece_at}
 use Rattle.ir_core.specs.Text.{is_word, is_word_from, is_numeral, is_numeral_from, is_behind_point, is_exponent, is_digits, comma_list}
-use Rattle.ir_core.proofs.Runs.{by_test, if_true, if_false, one_of, run_ended, run_front, run_bound, run_taken, every_first, every_more, digit_class, tail_true, tail_made}
-use Rattle.ir_core.proofs.Literals.{after, neither, course, number_course, whole_no_float, longest_is, longest_fits, longest_bound, longest_stops, colon_stops}
+use Rattle.ir_core.proofs.Runs.{by_test, if_true, if_false, one_of, run_ended, run_front, every_first, every_more, digit_class, tail_true, tail_made}
+use Rattle.ir_core.proofs.Literals.{after, neither, number_course, longest_is, longest_fits, longest_bound, longest_stops, colon_stops}
 use Rattle.ir_core.proofs.Below.{name_made, size_none, some_or_none, float_longer}
 use Rattle.ir_core.proofs.Lexing.{not_bad, piece_inside, piece_no_passive}
 

@@ -1,8 +1,8 @@
 -- Runs of bytes, and the classes of bytes.
-use Rattle.std.proofs.Common.{◌≡◌, ℕ, zero, suc, ◌+◌, ◌-◌, ◌≤◌, ◌<◌, List, [], ◌∷◌, ◌++◌, length, take, drop, Bool, true, false, cond, refl, sym, ap, ◌∙◌, subst, arith, length-append, length-drop, get_or, ◌==◌, nat_lt, drop-cons, if◌then◌else◌}
-use Rattle.std.proofs.lemmas.List.{take-append-drop, length-take-le, drop_all}
+use Rattle.std.proofs.Common.{◌≡◌, ℕ, zero, suc, ◌+◌, ◌≤◌, ◌<◌, List, [], ◌∷◌, ◌++◌, length, take, drop, Bool, true, false, cond, refl, sym, ap, ◌∙◌, subst, arith, get_or, ◌==◌, nat_lt, drop-cons, if◌then◌else◌}
+use Rattle.std.proofs.lemmas.List.{drop_all}
 use Rattle.std.proofs.lemmas.Bool.{eqb-true, eq-eqb, ltb-true, lt-ltb}
-use Rattle.ir_core.specs.Bytes.{Class, Blank, Semicolon, Bracket, Digit, Dash, Letter, Percent, AtSign, Colon, Quote, Hash, Bang, Other, blanks, marks, letter_signs, between, class_of, is_one_of, is_word_class, is_digit_class, word_byte, digit_byte, no_line_end, every}
+use Rattle.ir_core.specs.Bytes.{Class, Blank, Semicolon, Bracket, Digit, Dash, Letter, Percent, AtSign, Colon, Quote, Hash, Bang, Other, blanks, marks, letter_signs, between, class_of, is_one_of, is_word_class, is_digit_class, word_byte, digit_byte, every}
 use Rattle.ir_core.specs.Tokens.{Led, Nothing, Each, IsDigits}
 use Rattle.ir_core.specs.Scan.{run, class_at, is_number_tail}
 
@@ -288,4 +288,3 @@ run_up_to p (suc n) (c ∷ cs) l h e = run_in p c cs (h 0 (omega arith)) ∙ ap 
 
 pub class_here : (n : ℕ) (text : List ℕ) → n < length text → class_at (drop n text) ≡ class_of (get_or text n 0)
 class_here n text l = ap class_at (drop-cons text n 0 l)
-

@@ -1,13 +1,13 @@
 -- But for passive lines, what scanning finds at the front of a text is a piece, or a byte that it calls bad.
 use Rattle.std.proofs.Common.{◌≡◌, ℕ, zero, suc, ◌+◌, ◌≤◌, ◌<◌, List, [], ◌∷◌, ◌++◌, length, take, drop, Option, Some, None, Bool, true, false, cond, refl, sym, ap, ◌∙◌, subst, inl, inr, ◌⊎◌, arith, length-append, ◌==◌, nat_lt, codes}
 use Rattle.std.proofs.lemmas.List.{take-append-drop, length-take-le, take-take}
-use Rattle.std.proofs.lemmas.Bool.{eqb-true, ltb-true, lt-ltb}
+use Rattle.std.proofs.lemmas.Bool.{eqb-true, ltb-true}
 use Rattle.ir_core.specs.Bytes.{Class, Blank, Semicolon, Bracket, Digit, Dash, Letter, Percent, AtSign, Colon, Quote, Hash, Bang, Other, class_of, is_digit_class, word_byte, digit_byte, no_line_end, no_quote, every}
-use Rattle.ir_core.specs.Tokens.{TokenKind, Word, Local, Global, Label, Number, Float, Text, CText, Group, Meta, Mark, Passive, Bad, Past, Led, Nothing, Each, IsDigits, IsNumber, IsFloat, IsWord, IsQuoted, IsStem, IsLabel, IsMeta, IsPlain, Piece}
-use Rattle.ir_core.specs.Scan.{Literal, Minus, literal_start, is_whole, is_float, is_no_literal, longest, run, class_at, piece, bad_piece, is_number_tail, quoted_size, stem_size, name_size, meta_size, c_text_size, by_colon, by_size, by_name, by_tail, word_piece, digits_piece, dash_piece, quote_piece, by_class, plain_at}
-use Rattle.ir_core.proofs.Runs.{by_test, if_true, if_false, quote_byte, colon_byte, run_fits, run_bound, run_every, run_next, every_taken, digits_begin, digits_some, digits_every, digits_in_word, tail_true, tail_made, take_one, run_led, led_class, led_rest}
-use Rattle.ir_core.proofs.Literals.{after, lost, course_float, course_number, number_course, float_course, longest_bound, longest_is, longest_fits, no_literal_number, no_literal_float, no_float, no_number, neither}
-use Rattle.ir_core.proofs.Below.{quoted_made, quoted_closed, c_text_parts, size_made, size_none, name_made, some_or_none, stem_some}
+use Rattle.ir_core.specs.Tokens.{TokenKind, Word, Local, Global, Label, Number, Float, Text, CText, Group, Meta, Mark, Passive, Bad, Past, Each, IsDigits, IsNumber, IsFloat, IsWord, IsQuoted, IsStem, IsMeta, IsPlain, Piece}
+use Rattle.ir_core.specs.Scan.{Minus, literal_start, is_whole, is_float, is_no_literal, longest, run, class_at, bad_piece, is_number_tail, stem_size, name_size, meta_size, c_text_size, by_colon, by_size, by_name, by_tail, word_piece, digits_piece, by_class}
+use Rattle.ir_core.proofs.Runs.{by_test, if_false, quote_byte, colon_byte, run_fits, run_bound, run_every, run_next, every_taken, digits_begin, digits_some, digits_every, digits_in_word, tail_true, tail_made, take_one, run_led, led_class, led_rest}
+use Rattle.ir_core.proofs.Literals.{after, lost, course_float, course_number, number_course, float_course, longest_bound, longest_is, longest_fits, no_literal_number, no_literal_float, no_float, no_number}
+use Rattle.ir_core.proofs.Below.{quoted_made, c_text_parts, size_made, size_none, some_or_none, stem_some}
 
 abbrev pub Stands : List ℕ → Piece → Type 0
 Stands text p = ((p.size ≤ length text) × IsPlain p.kind (take p.size text)) ⊎ (p ≡ bad_piece)

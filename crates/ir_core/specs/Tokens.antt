@@ -1,7 +1,7 @@
 -- The tokens of a text: a text is a row of pieces, each the longest at its place, and the tokens are the pieces that are neither blanks nor comments.
 use Rattle.std.specs.Prelude.{◌≡◌, ℕ, ◌+◌, ◌-◌, ◌≤◌, List, [], ◌∷◌, ◌++◌, length, take, drop, map, codes, Contains, Option, Some, None, Bool, true, false, ◌==◌, ◌&&◌, nat_lt, if◌then◌else◌, ◌⊎◌}
 use Rattle.std.specs.Str.{bytes_eq}
-use Rattle.ir_core.specs.Bytes.{Class, Blank, Semicolon, Bracket, Digit, Dash, Letter, Percent, AtSign, Colon, Quote, Hash, Bang, class_of, is_one_of, word_byte, digit_byte, hex_byte, no_line_end, no_quote, every}
+use Rattle.ir_core.specs.Bytes.{Class, Blank, Semicolon, Bracket, Digit, Dash, Letter, Percent, AtSign, Hash, Bang, class_of, is_one_of, word_byte, digit_byte, hex_byte, no_line_end, no_quote, every}
 
 -- what a token is
 pub data TokenKind : Type 0 where
