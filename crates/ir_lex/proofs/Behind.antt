@@ -1,5 +1,5 @@
 -- The place behind a token.
-use Rattle.std.proofs.Common.{◌≡◌, ℕ, ◌+◌, ◌-◌, ◌≤◌, ◌<◌, List, length, take, drop, Some, Bool, true, false, cond, refl, sym, ◌∙◌, ap, arith, codes, ◌==◌}
+use Rattle.std.proofs.Common.{◌≡◌, ℕ, ◌+◌, ◌-◌, ◌≤◌, ◌<◌, List, length, take, drop, Bool, true, false, cond, refl, ◌∙◌, ap, arith, codes, ◌==◌}
 use Rattle.std.specs.Str.{bytes_eq}
 use Rattle.ir_core.specs.Tokens as meaning
 use Rattle.ir_core.specs.Tokens.{Spot, line_at, line_ends, open_behind}
@@ -7,7 +7,7 @@ use Rattle.ir_core.proofs.Lexing.{line_moves, line_small}
 use Rattle.ir_lex.specs.declared.gaps.Place.{Place}
 use Rattle.ir_lex.specs.declared.scan.Piece.{Piece}
 use Rattle.ir_lex.specs.Seen.{kind_seen}
-use Rattle.ir_lex.specs.Scanned.{spot_seen, IsPlace, IsBehind}
+use Rattle.ir_lex.specs.Scanned.{IsPlace, IsBehind}
 
 -- a token opens one brace at most
 open_small : (kind : meaning.TokenKind) (xs : List ℕ) (n : ℕ) → open_behind kind xs n ≤ n + 1

@@ -3,7 +3,7 @@ use Rattle.std.proofs.Common.{◌≡◌, ℕ, zero, suc, ◌+◌, ◌≤◌, ◌
 use Rattle.std.proofs.lemmas.List.{drop_all}
 use Rattle.std.proofs.lemmas.Bool.{eqb-true, lt-ltb}
 use Rattle.ir_core.specs.Scan.{Literal, Neither, literal_step, longest}
-use Rattle.ir_core.proofs.Runs.{by_test, if_true, if_false}
+use Rattle.ir_core.proofs.Runs.{by_test, if_false}
 use Rattle.ir_core.proofs.Literals.{longest_lost}
 
 -- size is that of the longest of the first n bytes, and m is what comes behind them

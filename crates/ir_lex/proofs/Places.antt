@@ -3,7 +3,6 @@ use Rattle.std.proofs.Common.{◌≡◌, ℕ, ◌+◌, ◌-◌, ◌≤◌, List,
 use Rattle.std.proofs.lemmas.List.{take_rest}
 use Rattle.ir_core.specs.Bytes as bytes
 use Rattle.ir_core.specs.Bytes.{no_line_end}
-use Rattle.ir_core.specs.Tokens as meaning
 use Rattle.ir_core.specs.Tokens.{line_at}
 use Rattle.ir_core.specs.Scan.{run, class_at, is_gap, Reads}
 use Rattle.ir_core.proofs.Lexing.{run_inside, comment_reads, comment_line, reads_none, reads_then, behind_blank, blank_reads, blank_line, class_inside}

@@ -1,8 +1,8 @@
 -- Blanks at the end, from the end on.
-use Rattle.std.proofs.Common.{◌≡◌, ℕ, zero, suc, ◌+◌, ◌≤◌, ◌<◌, List, [], ◌∷◌, ◌++◌, length, take, drop, get_or, Bool, true, false, cond, refl, sym, ap, ◌∙◌, arith, nat_lt, drop-cons, take-add}
+use Rattle.std.proofs.Common.{◌≡◌, ℕ, suc, ◌+◌, ◌≤◌, ◌<◌, List, [], ◌∷◌, ◌++◌, length, take, get_or, true, false, cond, ap, ◌∙◌, arith, nat_lt, drop-cons, take-add}
 use Rattle.std.proofs.lemmas.List.{length-take-le}
 use Rattle.std.proofs.lemmas.Bool.{lt-ltb}
-use Rattle.ir_core.specs.Bytes.{Blank, class_of}
+use Rattle.ir_core.specs.Bytes.{class_of}
 use Rattle.ir_core.specs.Scan.{is_blank, trimmed}
 use Rattle.ir_core.proofs.Runs.{if_true}
 

@@ -235,11 +235,7 @@ fn letter_piece(first: u8, rest: &[u8]) -> Piece
     requires { length rest.now < 2 ^ 32 }
     ensures { piece_seen result ≡ by_size CText (c_text_size first rest.now) (word_piece rest.now) }
 {
-    by_size(
-        TokenKind::CText,
-        c_text_size(first, rest),
-        word_piece(rest),
-    )
+    by_size(TokenKind::CText, c_text_size(first, rest), word_piece(rest))
 }
 
 /// What a quote begins: a string, a label, or nothing.

@@ -3,7 +3,7 @@ use Rattle.std.proofs.Common.{◌≡◌, ℕ, ◌-◌, List, [], ◌∷◌, Opti
 use Rattle.std.specs.Str.{bytes_eq}
 use Rattle.std.proofs.lemmas.Slice.Eq.{bytes_eq-Decides}
 use Rattle.std.proofs.lemmas.Bool.Decides.{Decides-eqb}
-use Rattle.ir_core.specs.Tokens.{Lexeme, TokenKind, Word, Local, Global, Label, Number, Mark, Bad, Past}
+use Rattle.ir_core.specs.Tokens.{Lexeme, TokenKind, Word, Local, Global, Label, Mark}
 use Rattle.ir_core.specs.Spell.{InTable, IsWordIn, IsWord, IsMark, with_line}
 use Rattle.ir_core.specs.Grammar.{IsLocal, IsGlobal, IsLabel}
 use Rattle.ir_read.specs.Read.{is_word, is_local, is_global, is_label, is_mark, as_local, as_global, as_label, as_mark, spells_word, as_word, look_up, as_table, lined, with_line_of}

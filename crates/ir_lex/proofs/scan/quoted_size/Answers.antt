@@ -1,4 +1,4 @@
-use Rattle.std.proofs.Common.{sym, ◌∙◌, ap}
+use Rattle.std.proofs.Common.{sym}
 use Rattle.ir_lex.proofs.Lines.{closed_size, open_size}
 use Rattle.ir_lex.proofs.scan.quoted_size.Goals as goal
 
