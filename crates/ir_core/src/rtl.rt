@@ -55,6 +55,7 @@ pub enum Rtl {
     HardwareThreadId,
 }
 
+// In the order of the table.
 const ALL: [Rtl; 22] = [
     Rtl::TargetInit,
     Rtl::TargetDeinit,

@@ -11,7 +11,7 @@ use Rattle.ir_tables.specs.declared.laid.Laid.{Laid}
 use Rattle.ir_tables.specs.declared.table.Known.{Known}
 use Rattle.ir_tables.specs.declared.table.Table.{Table}
 use Rattle.ir_tables.specs.Laid.{Keeps, laid_of, layer_laid}
-use Rattle.ir_tables.specs.Table.{body_at, ArePlaces, place_of, known_at, known_of, known_laid, end_or, layer_end, found_at, own_parts, Knows, KnowsAll, IsTable, count, open_in, is_open, IsSound, IsSettled, LaysOut, GrowsUpTo, Grows}
+use Rattle.ir_tables.specs.Table.{body_at, ArePlaces, place_of, known_at, known_of, known_laid, end_or, layer_end, found_at, own_parts, Knows, KnowsAll, IsTable, count, open_in, is_open, IsSound, IsSettled, LaysOut, Grows}
 use Rattle.ir_tables.proofs.Deeper.{Extends, Implies, layout_by, extended, deeper}
 use Rattle.ir_tables.proofs.Kept.{AreKept, kept}
 
@@ -224,6 +224,11 @@ pub settled_ill : (types : List TypeDef) (table : Table) (at : ℕ) (t : Ty) →
 settled_ill types table at t is none u here free =
     let same : t ≡ u = same_Some t u (sym is ∙ here) in
     subst (λ v. laid_of (known_laid table) v ≡ None) same (unmapped (laid_of (known_laid table) t) (layer_end table at (out-Ty t)) none)
+
+-- what the first places up to one have given, and whether a type was laid out there
+abbrev pub GrowsUpTo : List TypeDef → ℕ → Table → Table → Bool → Type 0
+GrowsUpTo types upto old new true = count old.known < count new.known
+GrowsUpTo types upto old new false = (new ≡ old) × ((at : ℕ) → at < upto → IsSettled types old at)
 
 -- a place more
 pub grows_more : (types : List TypeDef) (at : ℕ) (old now new : Table) (some one : Bool) → GrowsUpTo types at old now some → LaysOut types now new at one → GrowsUpTo types (at + 1) old new (some || one)

@@ -119,11 +119,6 @@ abbrev pub LaysOut : List TypeDef → Table → Table → ℕ → Bool → Type 
 LaysOut types old new at true = (body : Ty) × (known : Known) × (body_at types at ≡ Some body) × (slice_get old.known at ≡ Some None) × (found_at old at body ≡ Some known) × (new ≡ record old { known = slice_set old.known at (Some known) })
 LaysOut types old new at false = (new ≡ old) × IsSettled types old at
 
--- what the first places up to one have given, and whether a type was laid out there
-abbrev pub GrowsUpTo : List TypeDef → ℕ → Table → Table → Bool → Type 0
-GrowsUpTo types upto old new true = count old.known < count new.known
-GrowsUpTo types upto old new false = (new ≡ old) × ((at : ℕ) → at < upto → IsSettled types old at)
-
 -- whether some type was laid out
 abbrev pub Grows : List TypeDef → Table → Table → Bool → Type 0
 Grows types old new true = count old.known < count new.known

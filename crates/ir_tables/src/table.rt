@@ -99,6 +99,7 @@ impl Table {
         }
     }
 
+    /// What is kept of a name's layout.
     fn laid(&self, name: &Name) -> Option<Laid>
         ensures { result ≡ known_laid self.now name.now }
     {
@@ -169,6 +170,7 @@ pub(crate) fn start(table: &Table, before: &[Ty], field: &Ty) -> i64
     }
 }
 
+/// What the table gives for the type at a place; none where it has no layout, or not yet.
 fn found(table: &Table, at: usize, body: &Ty) -> Option<Known>
     ensures { result ≡ found_at table.now at body.now }
 {
@@ -209,6 +211,7 @@ fn lay_out_more(table: &mut Table, types: &[TypeDef]) -> bool
     some
 }
 
+/// Nothing for each of so many types.
 fn nothing_known(alloc: Global, types: usize) -> Result<List<Option<Known>>, OutOfMemory>
     ensures { IfOk result (λ known. (length known ≡ types) × (count known ≡ 0)) }
 {
@@ -219,8 +222,8 @@ fn nothing_known(alloc: Global, types: usize) -> Result<List<Option<Known>>, Out
     Ok(known)
 }
 
-/// Lays out the types, first in this order. What comes out is the same for any order; where each type stands behind its parts,
-/// each is looked at twice at most.
+/// Lays out the types. What comes out is the same for any order; the order bears the cost. Where each type that has a layout stands
+/// behind its parts, all are laid out in one go, and the others are tried twice.
 pub(crate) fn lay_out(
     alloc: Global,
     types: &[TypeDef],
