@@ -8,3 +8,4 @@ pub mod BlockLaws
 pub mod PointerLaws
 pub mod Widths
 pub mod Spelling
+pub mod StepLaws

@@ -15,3 +15,4 @@ pub mod Globals
 pub mod Launching
 pub mod MemoryLaws
 pub mod Answers
+pub mod StepLaws

@@ -12,6 +12,7 @@ mod laws;
 mod memory;
 mod order;
 mod step;
+mod step_laws;
 
 pub use arithmetic::{compare, eval, sign_extend};
 pub use bytes::{cell_size, number_of, place_in, read_word, write_word};
@@ -27,3 +28,8 @@ pub use laws::{
 };
 pub use memory::{BlockName, Byte, Cell, Ptr, Word};
 pub use step::{End, Moved, NotReady, Trap};
+pub use step_laws::{
+    alloca_ends, alloca_makes, call_begins, call_returns, first_thread_is_new, names_are_new,
+    phis_swap, return_goes_back, return_leaves, switch_first, switch_other, update_in_one,
+    update_of_constant,
+};
