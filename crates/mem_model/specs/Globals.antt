@@ -19,7 +19,6 @@ use Rattle.mem_model.specs.declared.memory.Cell.TheVariants.{Ptr as PtrCell}
 use Rattle.mem_model.specs.declared.step.Trap.{Trap}
 use Rattle.mem_model.specs.Words.{word_bytes}
 use Rattle.mem_model.specs.Memory.{Memory, with_block}
-use Rattle.mem_model.specs.Thread.{Name}
 use Rattle.mem_model.specs.Values.{cell_of, address_of}
 use Rattle.ir_core.specs.Places.{function_place, global_place}
 

@@ -17,3 +17,4 @@ pub mod Answers
 pub mod Coded
 pub mod Kept
 pub mod Seen
+pub mod StepLaws

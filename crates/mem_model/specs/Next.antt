@@ -1,10 +1,9 @@
 -- What a thread does next: one function for every meaning, which differ in what the thread's state answers alone
 -- (LLVM Language Reference, "Instruction Reference").
-use Rattle.std.specs.Prelude.{ℕ, ◌+◌, List, [], ◌∷◌, length, replicate, slice_get, Option, Some, None, Result, Ok, Err, Bool, false, ◌==◌, nat_le, pos, ℤ, if◌then◌else◌}
+use Rattle.std.specs.Prelude.{ℕ, ◌+◌, List, [], ◌∷◌, length, replicate, slice_get, Option, Some, None, Result, Ok, Err, Bool, false, ◌==◌, nat_le, pos, if◌then◌else◌}
 use Rattle.std.specs.Str.{bytes_eq}
-use Rattle.ir_core.specs.declared.types.Ty.{Ty}
 use Rattle.ir_core.specs.declared.instructions.Value.{Value}
-use Rattle.ir_core.specs.declared.instructions.Value.TheVariants.{Int as IntValue, Null, Local as Register, Global as GlobalValue}
+use Rattle.ir_core.specs.declared.instructions.Value.TheVariants.{Int as IntValue, Global as GlobalValue}
 use Rattle.ir_core.specs.declared.instructions.Typed.{Typed}
 use Rattle.ir_core.specs.declared.instructions.Case.{Case}
 use Rattle.ir_core.specs.declared.instructions.RmwOp.{RmwOp}
@@ -29,7 +28,7 @@ use Rattle.mem_model.specs.declared.step.Trap.{Trap}
 use Rattle.mem_model.specs.declared.step.Trap.TheVariants.{Unreachable, TooLarge}
 use Rattle.mem_model.specs.Memory.{Given, block_limit}
 use Rattle.mem_model.specs.Eval.{Eval, compared}
-use Rattle.mem_model.specs.Thread.{Name, Place, Registers, Code, Frame, ThreadState, Where, InStack, Elsewhere, where_is, given_of, no_registers, assigned, bound, find_in, put_in, load_own, store_own}
+use Rattle.mem_model.specs.Thread.{Name, Place, Registers, Code, Frame, ThreadState, Where, InStack, Elsewhere, where_is, given_of, assigned, bound, find_in, put_in, load_own, store_own}
 use Rattle.ir_core.specs.Places.{inst_at, labels, label_at, place_in, function_place, PhiNode, phis_at, edge_from}
 use Rattle.mem_model.specs.Values.{cell_of, width_of, value_word, and_then, operand_words, converted, path_of, moved, updated}
 

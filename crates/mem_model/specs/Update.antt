@@ -1,5 +1,5 @@
 -- Atomic changes of a cell: a read and a write in one step, tested as a write (LLVM Language Reference, "atomicrmw").
-use Rattle.std.specs.Prelude.{ℕ, ℤ, List, Option, Some, None, Result, Ok, Err, true}
+use Rattle.std.specs.Prelude.{ℕ, Result, Ok, Err, true}
 use Rattle.std.specs.FinMap as fin
 use Rattle.mem_model.specs.declared.memory.BlockName.{BlockName}
 use Rattle.mem_model.specs.declared.memory.Ptr.{Ptr}

@@ -1,5 +1,5 @@
 -- Operands as words, and words as others (LLVM Language Reference, "Constants", "Conversion Operations", "getelementptr", "atomicrmw").
-use Rattle.std.specs.Prelude.{ℕ, ◌+◌, ◌-◌, ◌*◌, ◌%◌, ◌^◌, ℤ, pos, ◌+ℤ◌, ◌-ℤ◌, int_lt, nat_lt, bit_and, bit_or, bit_xor, List, [], ◌∷◌, Option, Some, None, Result, Ok, Err, if◌then◌else◌}
+use Rattle.std.specs.Prelude.{ℕ, ◌-◌, ◌%◌, ◌^◌, ℤ, pos, ◌+ℤ◌, ◌-ℤ◌, int_lt, nat_lt, bit_and, bit_or, bit_xor, List, [], ◌∷◌, Option, Some, None, Result, Ok, Err, if◌then◌else◌}
 use Rattle.std.specs.Int.{int_wrap, w64}
 use Rattle.ir_core.specs.declared.types.Ty.{Ty}
 use Rattle.ir_core.specs.declared.types.Ty.TheVariants.{Int as IntTy}
@@ -21,7 +21,7 @@ use Rattle.mem_model.specs.declared.memory.Cell.TheVariants.{Int as IntCell, Ptr
 use Rattle.mem_model.specs.declared.step.Trap.{Trap}
 use Rattle.mem_model.specs.declared.step.Trap.TheVariants.{Unassigned, Unreachable, NotNumber}
 use Rattle.mem_model.specs.Eval.{signed, wrapped}
-use Rattle.mem_model.specs.Thread.{Name, Registers}
+use Rattle.mem_model.specs.Thread.{Registers}
 use Rattle.ir_core.specs.Places.{function_place, global_place}
 
 -- ---- types

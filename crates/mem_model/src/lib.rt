@@ -14,6 +14,7 @@ mod memory;
 mod order;
 mod shared;
 mod step;
+mod step_laws;
 #[cfg(test)]
 mod tests;
 mod thread;
@@ -34,4 +35,9 @@ pub use laws::{
 pub use memory::{BlockName, Byte, Cell, Ptr, Word};
 pub use shared::Memory;
 pub use step::{End, Moved, NotReady, Trap};
+pub use step_laws::{
+    alloca_ends, alloca_makes, call_begins, call_returns, first_thread_is_new, names_are_new,
+    phis_swap, return_goes_back, return_leaves, switch_first, switch_other, update_in_one,
+    update_of_constant,
+};
 pub use thread::{Answers, Frame, StackBlock, ThreadState};
