@@ -11,4 +11,3 @@ pub mod Spelling
 pub mod KeptLaws
 pub mod Changes
 pub mod Calls
-pub mod StepLaws

@@ -17,4 +17,3 @@ pub mod Answers
 pub mod Coded
 pub mod Kept
 pub mod Seen
-pub mod StepLaws
