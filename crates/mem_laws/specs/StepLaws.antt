@@ -49,6 +49,7 @@ PhisSwap =
     (x ≡ y → ⊥) → f.code.registers x ≡ Some v → f.code.registers y ≡ Some w →
     (r : Registers) × (Next m t ≡ Local (with_frames t (record f { code = record f.code { at = record { function = f.code.at.function; block = b; index = 2 }; registers = r } } ∷ rest))) × (r x ≡ Some w) × (r y ≡ Some v)
 
+-- the case is of another number
 abbrev pub IsNot : ℕ → Case → Type 0
 IsNot n c = c.value.value ≡ IntValue n → ⊥
 

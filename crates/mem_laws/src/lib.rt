@@ -13,8 +13,4 @@ pub use memory_laws::{
     released_traps, store_goes, store_keeps_blocks, store_then_load, tells_blocks, tells_pointers,
     word_comes_back,
 };
-pub use step_laws::{
-    alloca_ends, alloca_makes, call_begins, call_returns, first_thread_is_new, names_are_new,
-    phis_swap, return_goes_back, return_leaves, switch_first, switch_other, update_in_one,
-    update_of_constant,
-};
+pub use step_laws::{atomic_changes, branches, calls, stack_blocks};

@@ -1,5 +1,0 @@
-use Rattle.mem_laws.proofs.StepLaws as steps
-use Rattle.mem_laws.proofs.step_laws.return_goes_back.Goals as goal
-
-pub returns : goal.returns
-returns c = steps.return_goes_back
