@@ -1,7 +1,8 @@
-//! Memory, pointers and the launch of a kernel as data. What a thread does next, what an access gives and when one
+//! Memory and arithmetic, pointers and the launch of a kernel. What a thread does next, what an access gives and when one
 //! system covers another are definitions in `specs/`.
 //!
-//! Both meanings of a module, that of its source and that of the team that runs it, stand on this crate.
+//! Both meanings of a module, that of its source and that of the team that runs it, stand on this crate, and so do the
+//! interpreters of both: `Memory`, `eval` and the calls on bytes are exactly their definitions.
 #![tactic(auto)]
 
 mod arithmetic;

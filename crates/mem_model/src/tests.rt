@@ -8,7 +8,8 @@ use ir_core::{BinOp, Flags, Or, Pred};
 use std::alloc::Global;
 use std::process::Abort;
 
-// Operation, flag, both numbers and what comes, at each width.
+// Operation, flag, both numbers and what comes, at each width: the value that LLVM folds it to, or a trap where that is poison
+// or undefined.
 const BIT: &str =
     "add - 1 1 0; add nuw 1 1 Overflow; add nsw 0 1 1; add nsw 1 1 Overflow; add both 0 0 0; \
     sub - 0 1 1; sub nuw 0 1 Overflow; sub nsw 1 1 0; sub nsw 0 1 Overflow; \
