@@ -2,8 +2,12 @@ pub mod Bytes
 pub mod Tokens
 pub mod Scan
 pub mod Numbers
+pub mod Escapes
 pub mod Spell
 pub mod Grammar
+pub mod Forms
+pub mod Instructions
+pub mod Language
 pub mod Refusals
 pub mod Text
 pub mod Layout
