@@ -4,7 +4,7 @@ use Rattle.std.specs.List.{flat_map, list_all}
 use Rattle.std.specs.Str.{bytes_eq}
 use Rattle.std.proofs.lemmas.List.{map-append}
 use Rattle.ir_core.specs.declared.types.Ty.{Ty}
-use Rattle.ir_core.specs.declared.types.Ty.TheVariants.{Void, Int, Ptr}
+use Rattle.ir_core.specs.declared.types.Ty.TheVariants.{Int, Ptr}
 use Rattle.ir_core.specs.declared.instructions.Kind.{Kind}
 use Rattle.ir_core.specs.declared.instructions.Kind.TheVariants.{Bin, ICmp, Load, Call}
 use Rattle.ir_core.specs.declared.instructions.Inst.{Inst}
@@ -13,7 +13,6 @@ use Rattle.ir_core.specs.declared.module.Param.{Param}
 use Rattle.ir_core.specs.declared.module.Block.{Block}
 use Rattle.ir_core.specs.FirstForm.{result_type, result_given, inst_given, block_given, param_given, label_given, given, name_of, local_names, all_apart, type_in, is_type, is_given, same_scalar, block_well_typed, instruction_count, instruction_limit, is_well_formed}
 use Rattle.ir_core.specs.Text.{is_word}
-use Rattle.ir_check.specs.declared.names.Scalar.{Scalar}
 use Rattle.ir_check.specs.Names.{scalar_of, is_of, result_scalar, param_entry, result_entries, inst_entries, block_entries, label_entry, entries_of, Entry, key_of, type_in_table, has_good_code}
 
 abbrev pub entry_of : List ℕ × Ty → Entry

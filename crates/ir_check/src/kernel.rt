@@ -3,13 +3,13 @@ ghost use Rattle.std.specs.Prelude.{◌≡◌, true};
 ghost use Rattle.std.specs.List.{list_all};
 ghost use Rattle.std.specs.Str.{bytes_eq};
 ghost use Rattle.ir_core.specs.FirstForm.{by_test, by_init, is_entry, is_end, is_user, is_exit, are_kernel_blocks, is_scalar_param, is_kernel_name, is_kernel, are_init_params, are_deinit_params, is_bare_declaration, is_user_inst, declares_init, declares_deinit, begins_with_llvm};
-ghost use Rattle.ir_core.specs.EntryPoints.{is_among, region_entry_points, query_entry_points, loop_entry_points, output_entry_points, is_entry_point};
+ghost use Rattle.ir_core.specs.EntryPoints.{is_entry_point};
 
 use crate::instructions::{
     is_branch, is_deinit, is_init_kind, is_return, is_test_kind, is_user_inst,
 };
 use crate::operands::{is_int_of, is_ptr, is_scalar, is_void};
-use ir_core::{Block, Function, Inst, Name, Param};
+use ir_core::{Block, Function, Inst, Name, Param, Rtl};
 
 fn by_test(x: &Name, user: &Name, exit: &Name, test: &Inst, branch: &Inst) -> bool
     ensures { result ≡ by_test x.now test.now.result user.now exit.now test.now branch.now }
@@ -82,68 +82,23 @@ fn are_scalar_params(params: &[Param]) -> bool
     params.iter().all(|param| is_scalar(&param.ty))
 }
 
-fn is_region_entry_point(name: &[u8]) -> bool
-    ensures { result ≡ is_among region_entry_points name.now }
-{
-    name == b"__kmpc_target_init".as_slice()
-        || name == b"__kmpc_target_deinit".as_slice()
-        || name == b"__kmpc_parallel_51".as_slice()
-        || name == b"__kmpc_alloc_shared".as_slice()
-        || name == b"__kmpc_free_shared".as_slice()
-        || name == b"__kmpc_get_shared_variables".as_slice()
-        || name == b"__kmpc_barrier".as_slice()
-}
-
-fn is_query_entry_point(name: &[u8]) -> bool
-    ensures { result ≡ is_among query_entry_points name.now }
-{
-    name == b"__kmpc_global_thread_num".as_slice()
-        || name == b"omp_get_thread_num".as_slice()
-        || name == b"omp_get_num_threads".as_slice()
-        || name == b"omp_get_level".as_slice()
-        || name == b"__kmpc_parallel_level".as_slice()
-        || name == b"omp_in_parallel".as_slice()
-        || name == b"__kmpc_is_spmd_exec_mode".as_slice()
-}
-
-fn is_loop_entry_point(name: &[u8]) -> bool
-    ensures { result ≡ is_among loop_entry_points name.now }
-{
-    name == b"__kmpc_for_static_init_4".as_slice()
-        || name == b"__kmpc_for_static_fini".as_slice()
-        || name == b"ompx_print_i64".as_slice()
-}
-
-fn is_output_entry_point(name: &[u8]) -> bool
-    ensures { result ≡ is_among output_entry_points name.now }
-{
-    name == b"__kmpc_kernel_parallel".as_slice()
-        || name == b"__kmpc_kernel_end_parallel".as_slice()
-        || name == b"__kmpc_barrier_simple_spmd".as_slice()
-        || name == b"__kmpc_barrier_simple_generic".as_slice()
-        || name == b"__kmpc_get_hardware_thread_id_in_block".as_slice()
-}
-
-fn is_entry_point(name: &[u8]) -> bool
+fn is_entry_point(name: &Name) -> bool
     ensures { result ≡ is_entry_point name.now }
 {
-    is_region_entry_point(name)
-        || is_query_entry_point(name)
-        || is_loop_entry_point(name)
-        || is_output_entry_point(name)
+    Rtl::of(name).is_some()
 }
 
-fn is_kernel_name(name: &[u8]) -> bool
+fn is_kernel_name(name: &Name) -> bool
     ensures { result ≡ is_kernel_name name.now }
 {
-    !is_entry_point(name) && !name.starts_with(b"llvm.")
+    !is_entry_point(name) && !name.as_slice().starts_with(b"llvm.")
 }
 
 /// Whether the function has the shape of a kernel of the first form.
 pub fn is_kernel(f: &Function) -> bool
     ensures { result ≡ is_kernel true f.now }
 {
-    is_kernel_name(f.name.as_slice())
+    is_kernel_name(&f.name)
         && f.words.is_empty()
         && is_void(&f.ret)
         && are_scalar_params(f.params.as_slice())

@@ -1,4 +1,10 @@
+pub mod Below
 pub mod Lexing
+pub mod Literals
 pub mod Off
+pub mod PassiveLines
 pub mod Printed
+pub mod Runs
 pub mod Spelled
+pub mod EntryPoints
+pub mod Standing

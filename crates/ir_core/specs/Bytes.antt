@@ -12,6 +12,9 @@ pub data Class : Type 0 where
   Percent : Class
   AtSign : Class
   Colon : Class
+  Quote : Class
+  Hash : Class
+  Bang : Class
   Other : Class
 
 abbrev pub between : ℕ → ℕ → ℕ → Bool
@@ -34,7 +37,7 @@ abbrev pub letter_signs : List ℕ
 letter_signs = 36 ∷ 46 ∷ 95 ∷ []
 
 abbrev pub class_of : ℕ → Class
-class_of c = if is_one_of blanks c then Blank else if is_one_of marks c then Bracket else if between 48 57 c then Digit else if between 97 122 c then Letter else if between 65 90 c then Letter else if is_one_of letter_signs c then Letter else if c == 45 then Dash else if c == 37 then Percent else if c == 64 then AtSign else if c == 58 then Colon else if c == 59 then Semicolon else Other
+class_of c = if is_one_of blanks c then Blank else if is_one_of marks c then Bracket else if between 48 57 c then Digit else if between 97 122 c then Letter else if between 65 90 c then Letter else if is_one_of letter_signs c then Letter else if c == 45 then Dash else if c == 37 then Percent else if c == 64 then AtSign else if c == 58 then Colon else if c == 59 then Semicolon else if c == 34 then Quote else if c == 35 then Hash else if c == 33 then Bang else Other
 
 abbrev pub is_word_class : Class → Bool
 is_word_class Letter = true
@@ -53,8 +56,15 @@ word_byte c = is_word_class (class_of c)
 abbrev pub digit_byte : ℕ → Bool
 digit_byte c = is_digit_class (class_of c)
 
+-- digits, a to f, A to F
+abbrev pub hex_byte : ℕ → Bool
+hex_byte c = if between 48 57 c then true else if between 97 102 c then true else between 65 70 c
+
 abbrev pub no_line_end : ℕ → Bool
 no_line_end c = if c == 10 then false else true
+
+abbrev pub no_quote : ℕ → Bool
+no_quote c = if c == 34 then false else true
 
 abbrev pub every : (ℕ → Bool) → List ℕ → Bool
 every p [] = true

@@ -22,13 +22,11 @@ use Rattle.ir_core.specs.declared.module.Param.{Param}
 use Rattle.ir_core.specs.declared.module.Block.{Block}
 use Rattle.ir_core.specs.EntryPoints.{target_init, target_deinit, is_entry_point}
 use Rattle.ir_core.specs.Text.{is_word}
+pub use Rattle.ir_core.specs.Layout.{is_width}
 
 -- ---- types and operands
 
 -- a type that a register can have
-abbrev pub is_width : ℕ → Bool
-is_width n = if n == 1 then true else if n == 8 then true else if n == 16 then true else if n == 32 then true else n == 64
-
 abbrev pub is_scalar : Ty → Bool
 is_scalar (IntTy width) = is_width width
 is_scalar Ptr = true

@@ -6,6 +6,7 @@ pub mod Spell
 pub mod Grammar
 pub mod Refusals
 pub mod Text
+pub mod Layout
 pub mod EntryPoints
 pub mod FirstForm
 pub mod Lines
@@ -13,3 +14,4 @@ pub mod MachineOff
 pub mod Notes
 pub mod ReadsBack
 pub mod Wrappers
+pub mod Places

@@ -1,6 +1,7 @@
 -- The tokens of a text: a text is a row of pieces, each the longest at its place, and the tokens are the pieces that are neither blanks nor comments.
-use Rattle.std.specs.Prelude.{◌≡◌, ℕ, ◌+◌, ◌-◌, ◌≤◌, List, [], ◌∷◌, ◌++◌, length, take, drop, map, Option, Some, None, Bool, true, false, ◌==◌, nat_lt, if◌then◌else◌, ◌⊎◌}
-use Rattle.ir_core.specs.Bytes.{Class, Blank, Semicolon, Bracket, Digit, Dash, Letter, Percent, AtSign, Colon, class_of, word_byte, digit_byte, no_line_end, every}
+use Rattle.std.specs.Prelude.{◌≡◌, ℕ, ◌+◌, ◌-◌, ◌≤◌, List, [], ◌∷◌, ◌++◌, length, take, drop, map, codes, Contains, Option, Some, None, Bool, true, false, ◌==◌, ◌&&◌, nat_lt, if◌then◌else◌, ◌⊎◌}
+use Rattle.std.specs.Str.{bytes_eq}
+use Rattle.ir_core.specs.Bytes.{Class, Blank, Semicolon, Bracket, Digit, Dash, Letter, Percent, AtSign, Hash, Bang, class_of, is_one_of, word_byte, digit_byte, hex_byte, no_line_end, no_quote, every}
 
 -- what a token is
 pub data TokenKind : Type 0 where
@@ -9,7 +10,13 @@ pub data TokenKind : Type 0 where
   Global : TokenKind
   Label : TokenKind
   Number : TokenKind
+  Float : TokenKind
+  Text : TokenKind
+  CText : TokenKind
+  Group : TokenKind
+  Meta : TokenKind
   Mark : ℕ → TokenKind
+  Passive : TokenKind
   Bad : TokenKind
   Past : TokenKind
 
@@ -22,41 +29,127 @@ pub record Token : Type 0 where
 
 -- ---- shapes of pieces
 
--- c stands first, and what follows it has the shape
-abbrev pub Led : Class → (List ℕ → Type 0) → List ℕ → Type 0
-Led first Shape xs = (c : ℕ) × (cs : List ℕ) × (xs ≡ c ∷ cs) × (class_of c ≡ first) × Shape cs
+abbrev pub Shape : Type 1
+Shape = List ℕ → Type 0
 
-abbrev pub Nothing : List ℕ → Type 0
+-- c stands first, and what follows it has the shape
+abbrev pub Led : Class → Shape → Shape
+Led first Rest xs = (c : ℕ) × (cs : List ℕ) × (xs ≡ c ∷ cs) × (class_of c ≡ first) × Rest cs
+
+abbrev pub Nothing : Shape
 Nothing xs = xs ≡ []
 
-abbrev pub Each : (ℕ → Bool) → List ℕ → Type 0
+abbrev pub Each : (ℕ → Bool) → Shape
 Each p xs = every p xs ≡ true
 
-abbrev pub IsDigits : List ℕ → Type 0
+-- one of these bytes
+abbrev pub OneOf : List ℕ → Shape
+OneOf bytes xs = (c : ℕ) × (is_one_of bytes c ≡ true) × (xs ≡ c ∷ [])
+
+-- ---- numbers and float literals
+
+abbrev pub IsDigits : Shape
 IsDigits = Led Digit (Each digit_byte)
 
 -- digits, with a - before them or not
-abbrev pub IsNumber : List ℕ → Type 0
+abbrev pub IsNumber : Shape
 IsNumber xs = IsDigits xs ⊎ Led Dash IsDigits xs
 
--- letters, digits, $ . _ -, not beginning with a digit; what is also a number is no word
-abbrev pub IsWord : List ℕ → Type 0
-IsWord xs = (Led Letter (Each word_byte) xs ⊎ Led Dash (Each word_byte) xs) × (IsNumber xs → ⊥)
+-- e or E, a sign or none, and digits
+abbrev pub IsExponent : Shape
+IsExponent xs = (letter sign digits : List ℕ) × OneOf (codes "eE") letter × (Nothing sign ⊎ OneOf (codes "+-") sign) × IsDigits digits × (xs ≡ letter ++ sign ++ digits)
 
-abbrev pub IsWordOrDigits : List ℕ → Type 0
-IsWordOrDigits xs = IsWord xs ⊎ IsDigits xs
+-- a number with a point, further digits or none, and an exponent or none
+abbrev pub IsPointed : Shape
+IsPointed xs = (whole digits exponent : List ℕ) × IsNumber whole × Each digit_byte digits × (Nothing exponent ⊎ IsExponent exponent) × (xs ≡ whole ++ codes "." ++ digits ++ exponent)
 
--- a piece of this kind; none: a blank, or a comment, which runs to the end of its line
-abbrev pub Is : Option TokenKind → List ℕ → Type 0
-Is None xs = Led Blank Nothing xs ⊎ Led Semicolon (Each no_line_end) xs
-Is (Some Word) xs = IsWord xs
-Is (Some Local) xs = Led Percent IsWordOrDigits xs
-Is (Some Global) xs = Led AtSign IsWordOrDigits xs
-Is (Some Label) xs = (word : List ℕ) × (c : ℕ) × IsWordOrDigits word × (class_of c ≡ Colon) × (xs ≡ word ++ c ∷ [])
-Is (Some Number) xs = IsNumber xs
-Is (Some (Mark m)) xs = (xs ≡ m ∷ []) × (class_of m ≡ Bracket)
-Is (Some Bad) xs = ⊥
-Is (Some Past) xs = ⊥
+-- 0x, one of K L M H R or none, and hexadecimal digits
+abbrev pub IsHexadecimal : Shape
+IsHexadecimal xs = (letter digits : List ℕ) × (Nothing letter ⊎ OneOf (codes "KLMHR") letter) × (1 ≤ length digits) × Each hex_byte digits × (xs ≡ codes "0x" ++ letter ++ digits)
+
+abbrev pub IsFloat : Shape
+IsFloat xs = IsPointed xs ⊎ IsHexadecimal xs
+
+-- ---- words, strings and names
+
+-- letters, digits, $ . _ -, not beginning with a digit; what is also a number or a float literal is no word
+abbrev pub IsWord : Shape
+IsWord xs = (Led Letter (Each word_byte) xs ⊎ Led Dash (Each word_byte) xs) × (IsNumber xs → ⊥) × (IsFloat xs → ⊥)
+
+-- from a quote to the next one
+abbrev pub IsQuoted : Shape
+IsQuoted xs = (inner : List ℕ) × Each no_quote inner × (xs ≡ 34 ∷ (inner ++ 34 ∷ []))
+
+-- what stands behind the sign of a name, and before the colon of a label
+abbrev pub IsStem : Shape
+IsStem xs = IsWord xs ⊎ IsDigits xs ⊎ IsQuoted xs
+
+abbrev pub IsLabel : Shape
+IsLabel xs = (stem : List ℕ) × IsStem stem × (xs ≡ stem ++ codes ":")
+
+-- a name of metadata, or the beginning of a node
+abbrev pub IsMeta : Shape
+IsMeta = Led Bang (λ xs. IsStem xs ⊎ (xs ≡ codes "{"))
+
+-- a piece of this kind, but for passive lines; none: a blank, or a comment, which runs to the end of its line
+abbrev pub IsPlain : Option TokenKind → Shape
+IsPlain None xs = Led Blank Nothing xs ⊎ Led Semicolon (Each no_line_end) xs
+IsPlain (Some Word) xs = IsWord xs
+IsPlain (Some Local) xs = Led Percent IsStem xs
+IsPlain (Some Global) xs = Led AtSign IsStem xs
+IsPlain (Some Label) xs = IsLabel xs
+IsPlain (Some Number) xs = IsNumber xs
+IsPlain (Some Float) xs = IsFloat xs
+IsPlain (Some Text) xs = IsQuoted xs
+IsPlain (Some CText) xs = (text : List ℕ) × IsQuoted text × (xs ≡ codes "c" ++ text)
+IsPlain (Some Group) xs = Led Hash IsDigits xs
+IsPlain (Some Meta) xs = IsMeta xs
+IsPlain (Some (Mark m)) xs = (xs ≡ m ∷ []) × (class_of m ≡ Bracket)
+IsPlain (Some Passive) xs = ⊥
+IsPlain (Some Bad) xs = ⊥
+IsPlain (Some Past) xs = ⊥
+
+-- ---- passive lines: what stands at the front of a line outside braces and begins so is kept whole, without blanks at its ends
+
+abbrev pub passive_fronts : List (List ℕ)
+passive_fronts = codes "$" ∷ codes "attributes" ∷ codes "source_filename" ∷ codes "target" ∷ codes "@llvm." ∷ []
+
+abbrev pub IsPassiveFront : Shape
+IsPassiveFront xs = Contains passive_fronts xs ⊎ IsMeta xs
+
+abbrev pub EndsInNoBlank : Shape
+EndsInNoBlank xs = (before : List ℕ) × (c : ℕ) × (xs ≡ before ++ c ∷ []) × (class_of c ≡ Blank → ⊥)
+
+abbrev pub IsPassive : Shape
+IsPassive xs = (front rest : List ℕ) × IsPassiveFront front × (xs ≡ front ++ rest) × Each no_line_end xs × EndsInNoBlank xs
+
+-- where a piece stands: how many braces are open, and whether blanks alone stand before it on its line
+pub record Spot : Type 0 where
+  pub depth : ℕ
+  pub first : Bool
+
+abbrev pub text_start : Spot
+text_start = record { depth = 0; first = true }
+
+-- whether a passive line may stand there
+abbrev pub is_outside : Spot → Bool
+is_outside spot = spot.first && (spot.depth == 0)
+
+-- a piece of this kind; where a passive line may stand, what begins as one is no other piece
+abbrev pub Is : Spot → Option TokenKind → Shape
+Is spot (Some Passive) xs = (is_outside spot ≡ true) × IsPassive xs
+Is spot kind xs = IsPlain kind xs × (is_outside spot ≡ true → (line rest : List ℕ) → IsPassive line → xs ≡ line ++ rest → ⊥)
+
+-- how many braces are open behind a token; never fewer than none
+abbrev pub open_behind : TokenKind → List ℕ → ℕ → ℕ
+open_behind (Mark m) xs n = if m == 123 then n + 1 else if m == 125 then n - 1 else n
+open_behind Meta xs n = if bytes_eq xs (codes "!{") then n + 1 else n
+open_behind _ xs n = n
+
+-- where the next piece stands, behind a piece with these bytes
+abbrev pub behind : Spot → Option TokenKind → List ℕ → Spot
+behind spot None xs = record spot { first = if bytes_eq xs (10 ∷ []) then true else spot.first }
+behind spot (Some kind) xs = record { depth = open_behind kind xs spot.depth; first = false }
 
 -- ---- a text as a row of pieces
 
@@ -65,23 +158,23 @@ pub record Piece : Type 0 where
   pub size : ℕ
 
 -- the first n bytes of the text are a piece of this kind, and no piece there is longer
-pub record IsLongest (text : List ℕ) (kind : Option TokenKind) (n : ℕ) : Type 0 where
+pub record IsLongest (spot : Spot) (text : List ℕ) (kind : Option TokenKind) (n : ℕ) : Type 0 where
   pub inside : n ≤ length text
-  pub is : Is kind (take n text)
-  pub longest : (other : Option TokenKind) (front rest : List ℕ) → Is other front → text ≡ front ++ rest → length front ≤ n
+  pub is : Is spot kind (take n text)
+  pub longest : (other : Option TokenKind) (front rest : List ℕ) → Is spot other front → text ≡ front ++ rest → length front ≤ n
 
 -- no piece stands at the front
-abbrev pub BeginsNone : List ℕ → Type 0
-BeginsNone text = (kind : Option TokenKind) (front rest : List ℕ) → Is kind front → text ≡ front ++ rest → ⊥
+abbrev pub BeginsNone : Spot → List ℕ → Type 0
+BeginsNone spot text = (kind : Option TokenKind) (front rest : List ℕ) → Is spot kind front → text ≡ front ++ rest → ⊥
 
 -- the first byte of the text begins no piece, and is all that is left of the tokens
-abbrev pub IsBad : List ℕ → Piece → List Piece → Type 0
-IsBad text p ps = (p ≡ record { kind = Some Bad; size = 1 }) × (ps ≡ []) × (1 ≤ length text) × BeginsNone text
+abbrev pub IsBad : Spot → List ℕ → Piece → List Piece → Type 0
+IsBad spot text p ps = (p ≡ record { kind = Some Bad; size = 1 }) × (ps ≡ []) × (1 ≤ length text) × BeginsNone spot text
 
 -- piece after piece to the end, or to the first byte that begins none
-abbrev pub Pieces : List ℕ → List Piece → Type 0
-Pieces text [] = text ≡ []
-Pieces text (p ∷ ps) = (IsLongest text p.kind p.size × Pieces (drop p.size text) ps) ⊎ IsBad text p ps
+abbrev pub Pieces : Spot → List ℕ → List Piece → Type 0
+Pieces spot text [] = text ≡ []
+Pieces spot text (p ∷ ps) = (IsLongest spot text p.kind p.size × Pieces (behind spot p.kind (take p.size text)) (drop p.size text) ps) ⊎ IsBad spot text p ps
 
 -- how many line ends there are
 abbrev pub line_ends : List ℕ → ℕ
@@ -124,7 +217,7 @@ with_past text ts = ts ++ past_limit text ts
 
 -- these are the tokens of the text, of which no byte behind the limit is looked at
 abbrev pub Lexes : List ℕ → List Token → Type 0
-Lexes text ts = (ps : List Piece) × Pieces (take text_limit text) ps × (ts ≡ with_past text (tokens_from (take text_limit text) 0 ps))
+Lexes text ts = (ps : List Piece) × Pieces text_start (take text_limit text) ps × (ts ≡ with_past text (tokens_from (take text_limit text) 0 ps))
 
 -- ---- tokens with their bytes
 

@@ -1,7 +1,9 @@
 -- Wrappers of regions: the functions that forks name for workers to call.
-use Rattle.std.specs.Prelude.{ℕ, ◌-◌, List, [], ◌∷◌, length, map, max, Bool, true, false, codes, Option, Some, None, if◌then◌else◌}
+use Rattle.std.specs.Prelude.{ℕ, ◌-◌, List, [], ◌∷◌, length, map, max, Bool, true, false, Option, Some, None, if◌then◌else◌}
 use Rattle.std.specs.List.{flat_map, filter, fold}
 use Rattle.std.specs.Str.{bytes_eq}
+use Rattle.ir_core.specs.declared.rtl.Rtl.TheVariants.{Parallel, GetSharedVariables}
+use Rattle.ir_core.specs.EntryPoints.{entry_name}
 use Rattle.ir_core.specs.declared.instructions.Value.{Value}
 use Rattle.ir_core.specs.declared.instructions.Value.TheVariants.{Global as GlobalValue}
 use Rattle.ir_core.specs.declared.instructions.Typed.{Typed}
@@ -13,10 +15,10 @@ use Rattle.ir_core.specs.declared.module.Function.{Function}
 use Rattle.ir_core.specs.declared.module.Block.{Block}
 
 abbrev pub parallel : List ℕ
-parallel = codes "__kmpc_parallel_51"
+parallel = entry_name Parallel
 
 abbrev pub get_shared_variables : List ℕ
-get_shared_variables = codes "__kmpc_get_shared_variables"
+get_shared_variables = entry_name GetSharedVariables
 
 -- ---- calls
 

@@ -12,6 +12,7 @@ mod module;
 mod name;
 mod refusal;
 mod remark;
+mod rtl;
 mod types;
 mod words;
 
@@ -25,6 +26,7 @@ pub use module::{Block, Element, Function, Global, Init, Module, Param, TypeDef}
 pub use name::{FileName, Name};
 pub use refusal::{Construct, Refusal};
 pub use remark::{Mode, Remark};
+pub use rtl::Rtl;
 pub use sqlite_items::{Boxed, Items as List};
 pub use types::Ty;
 pub use words::is_word;

@@ -1,4 +1,7 @@
+pub mod Behind
 pub mod Lines
+pub mod LiteralSteps
 pub mod Places
 pub mod Steps
+pub mod Trims
 pub mod Whole

@@ -16,6 +16,9 @@ pub enum Class {
     Percent,
     AtSign,
     Colon,
+    Quote,
+    Hash,
+    Bang,
     Other,
 }
 
@@ -36,6 +39,9 @@ pub fn byte_class(byte: u8) -> Class
         b'@' => Class::AtSign,
         b':' => Class::Colon,
         b';' => Class::Semicolon,
+        b'"' => Class::Quote,
+        b'#' => Class::Hash,
+        b'!' => Class::Bang,
         _ => Class::Other,
     }
 }

@@ -1,5 +1,5 @@
 //! What stands between tokens: blanks and comments.
-ghost use Rattle.std.specs.Prelude.{◌≡◌, ◌<◌, ◌≤◌, ◌^◌, ◌+◌, length, drop, ◌==◌, if◌then◌else◌, IsTrue, ◌↔◌};
+ghost use Rattle.std.specs.Prelude.{◌≡◌, ◌<◌, ◌≤◌, ◌^◌, ◌+◌, length, drop, ◌==◌, true, if◌then◌else◌, IsTrue, ◌↔◌};
 ghost use Rattle.ir_core.specs.Bytes.{no_line_end, Blank as BlankByte, Semicolon as SemicolonByte};
 ghost use Rattle.ir_core.specs.Scan.{run, class_at};
 ghost use Rattle.ir_lex.specs.Scanned.{IsPlace, IsGap, BeginsToken};
@@ -7,16 +7,22 @@ ghost use Rattle.ir_lex.specs.Scanned.{IsPlace, IsGap, BeginsToken};
 use crate::class::{Class, class_at};
 use memchr::memchr;
 
-/// A place in a text, and the line of the byte there, counted from 1.
+/// A place in a text.
 #[derive(Clone, Copy)]
 pub struct Place {
     pub at: usize,
+    /// The line of the byte there, counted from 1.
     pub line: u32,
+    /// How many braces are open.
+    pub depth: u32,
+    /// Whether blanks alone stand before it on its line.
+    pub first: bool,
 }
 
 /// How many bytes come before the end of the line.
-fn line_run(text: &[u8]) -> usize
-    ensures { result ≡ run no_line_end text.now }
+pub fn line_run(text: &[u8]) -> usize
+    ensures run_is { result ≡ run no_line_end text.now }
+    ensures within { result ≤ length text.now }
 {
     match memchr(b'\n', text) {
         Some(size) => size,
@@ -35,6 +41,8 @@ fn skip_comment(text: &[u8], start: Place) -> Place
     Place {
         at: start.at + line_run(&text[start.at..]),
         line: start.line,
+        depth: start.depth,
+        first: start.first,
     }
 }
 
@@ -44,6 +52,13 @@ fn line_after(byte: u8, line: u32) -> u32
     ensures { result ≡ (if byte == 10 then line + 1 else line) }
 {
     if byte == b'\n' { line + 1 } else { line }
+}
+
+/// Whether blanks alone stand before what is behind a blank on its line.
+fn first_after(byte: u8, first: bool) -> bool
+    ensures { result ≡ (if byte == 10 then true else first) }
+{
+    if byte == b'\n' { true } else { first }
 }
 
 /// Whether a blank stands at a place.
@@ -63,9 +78,12 @@ fn skip_blanks(text: &[u8], start: Place) -> Place
 {
     let mut place = start;
     'blanks: while is_blank_at(text, place.at) {
+        let byte = text[place.at];
         place = Place {
             at: place.at + 1,
-            line: line_after(text[place.at], place.line),
+            line: line_after(byte, place.line),
+            depth: place.depth,
+            first: first_after(byte, place.first),
         };
     }
     place

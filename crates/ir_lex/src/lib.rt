@@ -4,6 +4,9 @@
 mod class;
 mod gaps;
 mod limit;
+mod literal;
+mod passive;
+mod place;
 mod read;
 mod scan;
 #[cfg(test)]

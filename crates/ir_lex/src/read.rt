@@ -5,7 +5,7 @@ ghost use Rattle.ir_lex.specs.Seen.{kind_seen};
 ghost use Rattle.ir_lex.specs.Scanned.{IsRead};
 
 use crate::gaps::{Place, skip_gaps};
-use crate::scan::token_at;
+use crate::place::{behind, token_at};
 use crate::token::{Token, TokenKind};
 use ir_core::{List, OutOfMemory};
 use std::alloc::Global;
@@ -33,17 +33,23 @@ pub fn read_all(alloc: Global, text: &[u8]) -> Result<Read, OutOfMemory>
     ensures { IfOk result (λ read. IsRead text.now read) }
 {
     let mut tokens = List::new(alloc);
-    let mut place = skip_gaps(text, Place { at: 0, line: 1 });
+    let start = Place {
+        at: 0,
+        line: 1,
+        depth: 0,
+        first: true,
+    };
+    let mut place = skip_gaps(text, start);
     'tokens: while place.at < text.len() {
-        let piece = token_at(text, place.at);
+        let piece = token_at(text, place);
         let end = place.at + piece.size;
+        let line = place.line;
         tokens.push(Token {
             kind: piece.kind,
             start: place.at as u32,
             end: end as u32,
-            line: place.line,
+            line,
         })?;
-        let line = place.line;
         if is_bad(piece.kind) {
             return Ok(Read {
                 tokens,
@@ -51,7 +57,7 @@ pub fn read_all(alloc: Global, text: &[u8]) -> Result<Read, OutOfMemory>
                 line,
             });
         }
-        place = skip_gaps(text, Place { at: end, line });
+        place = skip_gaps(text, behind(text, place, piece));
     }
     Ok(Read {
         tokens,

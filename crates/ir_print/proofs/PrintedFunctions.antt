@@ -14,7 +14,7 @@ use Rattle.ir_core.specs.Text.{is_word, name_text, type_text, inst_text, block_t
 use Rattle.ir_core.specs.FirstForm.{is_scalar}
 use Rattle.ir_core.specs.Lines.{inst_unlined, block_unlined, function_unlined, SameButLines}
 use Rattle.ir_core.specs.ReadsBack.{ReadsBack}
-use Rattle.ir_core.proofs.Printed.{comma, led_by_comma, Bare, bare, Lexed, label_lexed, blank_lexed, EachGives, Closes, EachCloses, listed, closes_as, gives_closes, closes_gives, closes_then, closes_many, closes_space, closes_line, closes_mark, closes_word, closes_with_list, lexed_end, lexed_whole}
+use Rattle.ir_core.proofs.Printed.{comma, led_by_comma, Bare, bare, Lexed, Outer, label_lexed, space_lexed, line_lexed, open_lexed, close_lexed, outer_line, outer_word, outer_end, no_passive_d, EachGives, Closes, Inner, OnLines, EachInner, EachOnLines, listed, closes_as, gives_closes, closes_gives, closes_then, inner_then, inner_many, lines_many, closes_space, closes_mark, closes_word, closes_with_list, lexed_whole}
 use Rattle.ir_print.proofs.PrintedOperands.{is_result, type_bare, plain_name, scalar_word, global_bare, local_bare, gives_scalar, gives_result, gives_local, gives_global, shows_scalar, shows_result, shows_local, shows_global}
 use Rattle.ir_print.proofs.PrintedInstructions.{inst_bare, GoodPlain, GoodLast, inst_closes, plain_spelled, last_spelled}
 use Rattle.ir_core.proofs.Spelled.{Spelled, Shows, EachSpelled, spelled_done, spelled_then, spelled_same, spelled_more, spelled_as, spelled_one, token_then, token_same, spelled_any, spelled_many, spelled_list_same, shows_word, shows_mark, shows_line}
@@ -42,16 +42,16 @@ abbrev pub block_bare : Block → List Bare
 block_bare b = label_bare b.name ∷ flat_map inst_bare b.insts
 
 -- a label and the line end behind it
-label_closes : (x : List ℕ) → is_word x ≡ true → Closes (name_text x ++ codes ":\n") (label_bare x ∷ [])
-label_closes x h = subst (λ w. Closes (w ++ codes ":\n") (label_bare x ∷ [])) (sym (plain_name x h)) (record { before = λ rest ms r. subst (λ t. Lexed t (label_bare x ∷ ms)) (sym (append_assoc x (codes ":\n") rest)) (label_lexed x (10 ∷ rest) ms h (blank_lexed 10 rest ms refl r)) })
+label_closes : (x : List ℕ) → is_word x ≡ true → Inner (name_text x ++ codes ":\n") (label_bare x ∷ [])
+label_closes x h = subst (λ w. Inner (w ++ codes ":\n") (label_bare x ∷ [])) (sym (plain_name x h)) (record { before = λ d rest ms r. subst (λ t. Lexed (d + 1) t (label_bare x ∷ ms)) (sym (append_assoc x (codes ":\n") rest)) (label_lexed (d + 1) x (10 ∷ rest) ms h (line_lexed d rest ms r)) })
 
-insts_close : (is : List Inst) (last : Inst) → AllPlain is → GoodLast last → EachCloses inst_text inst_bare (is ++ last ∷ [])
+insts_close : (is : List Inst) (last : Inst) → AllPlain is → GoodLast last → EachInner inst_text inst_bare (is ++ last ∷ [])
 insts_close [] last h g = (inst_closes last g.good, tt)
 insts_close (i ∷ is) last h g = (inst_closes i h.0.good, insts_close is last h.1 g)
 
 -- the text of a block has its tokens
-pub block_closes : (b : Block) → GoodBlock b → Closes (block_text b) (block_bare b)
-block_closes b g = closes_then (label_closes b.name g.name) (closes_many inst_text inst_bare b.insts (subst (EachCloses inst_text inst_bare) (sym g.insts) (insts_close g.plains g.last g.plains_good g.last_good)))
+pub block_closes : (b : Block) → GoodBlock b → Inner (block_text b) (block_bare b)
+block_closes b g = inner_then (label_closes b.name g.name) (inner_many inst_text inst_bare b.insts (subst (EachInner inst_text inst_bare) (sym g.insts) (insts_close g.plains g.last g.plains_good g.last_good)))
 
 -- a label stands for its name
 shows_label : (x : List ℕ) → Shows IsLabel (label_bare x) (λ y. y ≡ x)
@@ -121,13 +121,13 @@ abbrev pub heading_bare : Ty → List ℕ → List Bare → List Bare
 heading_bare ret name params = type_bare ret ∷ global_bare name ∷ bare (Mark 40) (40 ∷ []) ∷ params
 
 closes_none : Closes [] []
-closes_none = record { before = λ rest ms r. r }
+closes_none = record { before = λ d rest ms r. r }
 
 -- the text of a heading has its tokens
 heading_closes : (name : List ℕ) (ret : Ty) (params : List Param) (blocks : List Block) (line : ℕ) (show : Param → List ℕ) (tokens : Param → List Bare) → is_word name ≡ true → is_result ret ≡ true → EachGives show tokens params → Closes (heading_text (bare_function name ret params blocks line) (map show params)) (heading_bare ret name (listed 41 tokens params))
 heading_closes name ret params blocks line show tokens n r h =
     closes_as (append-nil (heading_bare ret name (listed 41 tokens params)))
-    (closes_then (closes_with_list 41 show tokens params refl (gives_closes (closes_gives (gives_closes (gives_result ret r) closes_space (λ rest. refl)) (gives_global name n)) (closes_mark 40 refl) (λ rest. refl)) h) closes_none)
+    (closes_then (closes_with_list 41 show tokens params refl (gives_closes (closes_gives (gives_closes (gives_result ret r) closes_space (λ rest. refl)) (gives_global name n)) (closes_mark 40 refl refl) (λ rest. refl)) h) closes_none)
 
 each_param : (ps : List Param) → AllScalar ps → AllNamed ps → EachGives param_text param_bare ps
 each_param [] s n = tt
@@ -158,7 +158,7 @@ abbrev pub AllBlocks : List Block → Type 0
 AllBlocks [] = Unit {0}
 AllBlocks (b ∷ bs) = GoodBlock b × AllBlocks bs
 
-each_block : (bs : List Block) → AllBlocks bs → EachCloses block_text block_bare bs
+each_block : (bs : List Block) → AllBlocks bs → EachInner block_text block_bare bs
 each_block [] h = tt
 each_block (b ∷ bs) h = (block_closes b h.0, each_block bs h.1)
 
@@ -184,22 +184,28 @@ body_spelled b bs h =
 abbrev pub define_bare : List ℕ → Ty → List Param → List Block → List Bare
 define_bare name ret params bs = bare Word (codes "define") ∷ heading_bare ret name (listed 41 param_bare params ++ body_bare bs)
 
--- what stands between two marks
-around : (l f : List Bare) (o c : Bare) → ((l ++ o ∷ []) ++ f) ++ c ∷ [] ≡ l ++ o ∷ (f ++ c ∷ [])
-around l f o c = append_assoc (l ++ o ∷ []) f (c ∷ []) ∙ append_assoc l (o ∷ []) (f ++ c ∷ [])
+-- the text of a definition, by that of its heading and of its blocks
+define_lines : (h b : List ℕ) (lh lb : List Bare) → Closes h lh → Inner b lb → OnLines (codes "define " ++ h ++ codes " {\n" ++ b ++ codes "}\n") (bare Word (codes "define") ∷ (lh ++ bare (Mark 123) (123 ∷ []) ∷ (lb ++ bare (Mark 125) (125 ∷ []) ∷ [])))
+define_lines h b lh lb x y = record { before = λ rest ms o. lines rest ms o }
+  where
+    inside : (rest : List ℕ) (ms : List Bare) → Outer rest ms → Lexed 1 (b ++ 125 ∷ 10 ∷ rest) (lb ++ bare (Mark 125) (125 ∷ []) ∷ ms)
+    inside rest ms o = y.before 0 (125 ∷ 10 ∷ rest) (bare (Mark 125) (125 ∷ []) ∷ ms) (close_lexed 0 (10 ∷ rest) ms (outer_line rest ms o))
+
+    whole : (rest : List ℕ) (ms : List Bare) → Outer rest ms → Outer (codes "define " ++ (h ++ 32 ∷ 123 ∷ 10 ∷ (b ++ 125 ∷ 10 ∷ rest))) (bare Word (codes "define") ∷ (lh ++ bare (Mark 123) (123 ∷ []) ∷ (lb ++ bare (Mark 125) (125 ∷ []) ∷ ms)))
+    whole rest ms o =
+        let body = b ++ 125 ∷ 10 ∷ rest in
+        let tokens = lb ++ bare (Mark 125) (125 ∷ []) ∷ ms in
+        let braced = space_lexed 0 (123 ∷ 10 ∷ body) (bare (Mark 123) (123 ∷ []) ∷ tokens) (open_lexed 0 (10 ∷ body) tokens (line_lexed 0 body tokens (inside rest ms o))) in
+        let line = space_lexed 0 (h ++ 32 ∷ 123 ∷ 10 ∷ body) (lh ++ bare (Mark 123) (123 ∷ []) ∷ tokens) (x.before 0 (32 ∷ 123 ∷ 10 ∷ body) (bare (Mark 123) (123 ∷ []) ∷ tokens) braced) in
+        outer_word (codes "define") (32 ∷ (h ++ 32 ∷ 123 ∷ 10 ∷ body)) (lh ++ bare (Mark 123) (123 ∷ []) ∷ tokens) refl refl (no_passive_d (codes "efine" ++ 32 ∷ (h ++ 32 ∷ 123 ∷ 10 ∷ body))) line
+
+    lines : (rest : List ℕ) (ms : List Bare) → Outer rest ms → Outer ((codes "define " ++ h ++ codes " {\n" ++ b ++ codes "}\n") ++ rest) ((bare Word (codes "define") ∷ (lh ++ bare (Mark 123) (123 ∷ []) ∷ (lb ++ bare (Mark 125) (125 ∷ []) ∷ []))) ++ ms)
+    lines rest ms o = simp append_assoc (whole rest ms o)
 
 -- the text of a definition has its tokens
-define_closes : (name : List ℕ) (ret : Ty) (params : List Param) (b : Block) (bs : List Block) (line : ℕ) → is_word name ≡ true → is_result ret ≡ true → AllScalar params → AllNamed params → AllBlocks (b ∷ bs) → Closes (function_text (bare_function name ret params (b ∷ bs) line)) (define_bare name ret params (b ∷ bs))
+define_closes : (name : List ℕ) (ret : Ty) (params : List Param) (b : Block) (bs : List Block) (line : ℕ) → is_word name ≡ true → is_result ret ≡ true → AllScalar params → AllNamed params → AllBlocks (b ∷ bs) → OnLines (function_text (bare_function name ret params (b ∷ bs) line)) (define_bare name ret params (b ∷ bs))
 define_closes name ret params b bs line n r s m h =
-    let l : List Bare = bare Word (codes "define") ∷ heading_bare ret name (listed 41 param_bare params) in
-    closes_as (around l (flat_map block_bare (b ∷ bs)) (bare (Mark 123) (123 ∷ [])) (bare (Mark 125) (125 ∷ [])))
-    (closes_then (closes_then (closes_then (closes_then (closes_word (codes "define") refl) (heading_closes name ret params (b ∷ bs) line param_text param_bare n r (each_param params s m))) opens) (closes_many block_text block_bare (b ∷ bs) (each_block (b ∷ bs) h))) shuts)
-  where
-    opens : Closes (codes " {\n") (bare (Mark 123) (123 ∷ []) ∷ [])
-    opens = closes_then closes_space (closes_then (closes_mark 123 refl) closes_line)
-
-    shuts : Closes (codes "}\n") (bare (Mark 125) (125 ∷ []) ∷ [])
-    shuts = closes_then (closes_mark 125 refl) closes_line
+    define_lines (heading_text (bare_function name ret params (b ∷ bs) line) (map param_text params)) (flat_map block_text (b ∷ bs)) (heading_bare ret name (listed 41 param_bare params)) (flat_map block_bare (b ∷ bs)) (heading_closes name ret params (b ∷ bs) line param_text param_bare n r (each_param params s m)) (inner_many block_text block_bare (b ∷ bs) (each_block (b ∷ bs) h))
 
 -- a definition is spelled by its tokens, but for lines
 define_spelled : (name : List ℕ) (ret : Ty) (params : List Param) (b : Block) (bs : List Block) (line : ℕ) → is_result ret ≡ true → AllScalar params → AllBlocks (b ∷ bs) → Spelled (any function_of) (define_bare name ret params (b ∷ bs)) (λ n. function_unlined (bare_function name ret params (b ∷ bs) line) ≡ function_unlined n)
@@ -218,9 +224,19 @@ define_spelled name ret params b bs line r s h =
 abbrev pub declare_bare : List ℕ → Ty → List Param → List Bare
 declare_bare name ret params = bare Word (codes "declare") ∷ heading_bare ret name (listed 41 param_type_bare params)
 
+-- the text of a declaration, by that of its heading
+declare_lines : (h : List ℕ) (lh : List Bare) → Closes h lh → OnLines (codes "declare " ++ h ++ codes "\n") (bare Word (codes "declare") ∷ lh)
+declare_lines h lh x = record { before = λ rest ms o. lines rest ms o }
+  where
+    whole : (rest : List ℕ) (ms : List Bare) → Outer rest ms → Outer (codes "declare " ++ (h ++ 10 ∷ rest)) (bare Word (codes "declare") ∷ (lh ++ ms))
+    whole rest ms o = outer_word (codes "declare") (32 ∷ (h ++ 10 ∷ rest)) (lh ++ ms) refl refl (no_passive_d (codes "eclare" ++ 32 ∷ (h ++ 10 ∷ rest))) (space_lexed 0 (h ++ 10 ∷ rest) (lh ++ ms) (x.before 0 (10 ∷ rest) ms (outer_line rest ms o)))
+
+    lines : (rest : List ℕ) (ms : List Bare) → Outer rest ms → Outer ((codes "declare " ++ h ++ codes "\n") ++ rest) ((bare Word (codes "declare") ∷ lh) ++ ms)
+    lines rest ms o = simp append_assoc (whole rest ms o)
+
 -- the text of a declaration has its tokens
-declare_closes : (name : List ℕ) (ret : Ty) (params : List Param) (line : ℕ) → is_word name ≡ true → is_result ret ≡ true → AllScalar params → Closes (function_text (bare_function name ret params [] line)) (declare_bare name ret params)
-declare_closes name ret params line n r s = closes_as (append-nil (declare_bare name ret params)) (closes_then (closes_then (closes_word (codes "declare") refl) (heading_closes name ret params [] line param_type_text param_type_bare n r (each_type params s))) closes_line)
+declare_closes : (name : List ℕ) (ret : Ty) (params : List Param) (line : ℕ) → is_word name ≡ true → is_result ret ≡ true → AllScalar params → OnLines (function_text (bare_function name ret params [] line)) (declare_bare name ret params)
+declare_closes name ret params line n r s = declare_lines (heading_text (bare_function name ret params [] line) (map param_type_text params)) (heading_bare ret name (listed 41 param_type_bare params)) (heading_closes name ret params [] line param_type_text param_type_bare n r (each_type params s))
 
 -- a declaration has its parameters' types alone
 led_types : (ps : List Param) → flat_map (led_by_comma param_type_bare) ps ≡ flat_map (led_by_comma alone) (map type_of ps)
@@ -268,9 +284,9 @@ as_bare : (f : Function) (blocks : List Block) → GoodHeading f → f.blocks �
 as_bare f blocks h e = λ i. record { name = f.name; words = sym h.words i; ret = f.ret; params = f.params; groups = sym h.groups i; blocks = sym e i; line = f.line }
 
 -- the text of a function has its tokens
-pub function_closes : (f : Function) → GoodFunction f → Closes (function_text f) (function_bare f)
-function_closes f (defined h n b bs e g) = subst (λ f. Closes (function_text f) (function_bare f)) (as_bare f (b ∷ bs) h e) (define_closes f.name f.ret f.params b bs f.line h.name h.ret h.params n g)
-function_closes f (declared h e p) = subst (λ f. Closes (function_text f) (function_bare f)) (as_bare f [] h e) (declare_closes f.name f.ret f.params f.line h.name h.ret h.params)
+pub function_closes : (f : Function) → GoodFunction f → OnLines (function_text f) (function_bare f)
+function_closes f (defined h n b bs e g) = subst (λ f. OnLines (function_text f) (function_bare f)) (as_bare f (b ∷ bs) h e) (define_closes f.name f.ret f.params b bs f.line h.name h.ret h.params n g)
+function_closes f (declared h e p) = subst (λ f. OnLines (function_text f) (function_bare f)) (as_bare f [] h e) (declare_closes f.name f.ret f.params f.line h.name h.ret h.params)
 
 -- a function is spelled by its tokens, but for lines
 pub function_spelled : (f : Function) → GoodFunction f → Spelled (any function_of) (function_bare f) (λ n. function_unlined f ≡ function_unlined n)
@@ -283,7 +299,7 @@ abbrev pub AllFunctions : List Function → Type 0
 AllFunctions [] = Unit {0}
 AllFunctions (f ∷ fs) = GoodFunction f × AllFunctions fs
 
-each_closes : (fs : List Function) → AllFunctions fs → EachCloses function_text function_bare fs
+each_closes : (fs : List Function) → AllFunctions fs → EachOnLines function_text function_bare fs
 each_closes [] h = tt
 each_closes (f ∷ fs) h = (function_closes f h.0, each_closes fs h.1)
 
@@ -299,7 +315,7 @@ functions_spelled fs h = spelled_then {ls = flat_map function_bare fs} {ms = []}
 -- the canonical text of good functions gives them back, but for lines
 pub functions_back : (fs : List Function) → AllFunctions fs → length (Text (of_functions fs)) ≤ text_limit → ReadsBack (Text (of_functions fs)) (of_functions fs)
 functions_back fs h l =
-    let x = (closes_many function_text function_bare fs (each_closes fs h)).before [] [] lexed_end in
+    let x = (lines_many function_text function_bare fs (each_closes fs h)).before [] [] outer_end in
     let w = lexed_whole (Text (of_functions fs)) (flat_map function_bare fs ++ []) l x in
     let s = (functions_spelled fs h).all (lexemes (take text_limit (Text (of_functions fs))) w.0) w.2 in
     (s.0, (w.0, w.1, s.1), s.2)

@@ -19,7 +19,7 @@ use Rattle.ir_core.specs.Spell.{any}
 use Rattle.ir_core.specs.Text.{is_word, type_text, value_text, typed_text, bin_op_text, pred_text, kind_text, target_text, result_text, inst_text}
 use Rattle.ir_core.specs.FirstForm.{is_scalar, is_add_sub_or_mul}
 use Rattle.ir_core.specs.Lines.{inst_unlined}
-use Rattle.ir_core.proofs.Printed.{gives_none, gives_of, gives_then, gives_closes, closes_gives, closes_then, closes_as, closes_space, closes_line, closes_comma, closes_mark, closes_word, closes_with_list, gives_word, Closes, Bare, bare, Gives, EachGives, comma, listed}
+use Rattle.ir_core.proofs.Printed.{gives_none, gives_of, gives_then, gives_closes, closes_gives, closes_then, inner_as, gives_inner, inner_line, closes_space, closes_comma, closes_mark, closes_word, closes_with_list, gives_word, Closes, Inner, Bare, bare, Gives, EachGives, comma, listed}
 use Rattle.ir_print.proofs.PrintedOperands.{gives_value_text, gives_scalar, gives_result, gives_local, gives_global, gives_typed, local_bare, is_result, type_bare, value_bare, typed_bare, GoodValue, GoodTyped, typed_spelled, shows_scalar, shows_result, shows_value, shows_local, shows_global}
 use Rattle.ir_core.proofs.Spelled.{Spelled, EachSpelled, spelled_done, spelled_then, spelled_same, token_then, token_same, spelled_any, spelled_one, spelled_more, spelled_as, shows_word, shows_mark, shows_in, shows_line, spelled_list_same}
 
@@ -125,7 +125,7 @@ each_typed [] h = tt
 each_typed (v ∷ vs) h = (gives_typed v h.0, each_typed vs h.1)
 
 call_gives : (ret : Ty) (callee : List ℕ) (args : List Typed) → GoodKind (Call Absent ret (GlobalValue callee) args) → Gives (kind_text (Call Absent ret (GlobalValue callee) args)) (kind_bare (Call Absent ret (GlobalValue callee) args))
-call_gives ret callee args g = gives_of (closes_with_list 41 typed_text typed_bare args refl (gives_closes (closes_gives (gives_closes (closes_gives (closes_word (codes "call") refl) (gives_result ret g.0)) closes_space (λ rest. refl)) (gives_global callee g.1)) (closes_mark 40 refl) (λ rest. refl)) (each_typed args g.2))
+call_gives ret callee args g = gives_of (closes_with_list 41 typed_text typed_bare args refl (gives_closes (closes_gives (gives_closes (closes_gives (closes_word (codes "call") refl) (gives_result ret g.0)) closes_space (λ rest. refl)) (gives_global callee g.1)) (closes_mark 40 refl refl) (λ rest. refl)) (each_typed args g.2))
 
 pub gives_target : (b : List ℕ) → is_word b ≡ true → Gives (target_text b) (target_bare b)
 gives_target b h = closes_gives (closes_word (codes "label") refl) (gives_local b h)
@@ -237,7 +237,7 @@ pub record GoodLast (i : Inst) : Type 0 where
   pub shape : IsLast i.result i.kind
 
 equals_closes : Closes (codes " = ") (bare (Mark 61) (61 ∷ []) ∷ [])
-equals_closes = closes_then closes_space (closes_then (closes_mark 61 refl) closes_space)
+equals_closes = closes_then closes_space (closes_then (closes_mark 61 refl refl) closes_space)
 
 -- the spaces before an instruction, and its result
 result_closes : (r : Option (List ℕ)) → GoodResult r → Closes (codes "  " ++ result_text r) (result_bare r)
@@ -245,8 +245,8 @@ result_closes None h = closes_then closes_space closes_space
 result_closes (Some x) h = closes_then (closes_then closes_space closes_space) (gives_closes (gives_local x h) equals_closes (λ rest. refl))
 
 -- the line of an instruction has its tokens
-pub inst_closes : (i : Inst) → GoodInst i → Closes (inst_text i) (inst_bare i)
-inst_closes i g = closes_as (append-nil (inst_bare i)) (gives_closes (closes_gives (result_closes i.result g.result) (kind_gives i.kind g.kind)) closes_line (λ rest. refl))
+pub inst_closes : (i : Inst) → GoodInst i → Inner (inst_text i) (inst_bare i)
+inst_closes i g = inner_as (append-nil (inst_bare i)) (gives_inner (closes_gives (result_closes i.result g.result) (kind_gives i.kind g.kind)) inner_line (λ rest. refl))
 
 -- an instruction on some line
 abbrev SameUnlined : Option (List ℕ) → Kind → Inst → Type 0

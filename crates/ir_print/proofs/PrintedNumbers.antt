@@ -4,8 +4,7 @@ use Rattle.std.proofs.lemmas.Bool.{lt-ltb, le-leb, eqb-true}
 use Rattle.std.proofs.lemmas.Fmt.{decimal_by_steps}
 use Rattle.ir_core.specs.declared.types.Ty.TheVariants.{Int as IntTy}
 use Rattle.ir_core.specs.Bytes.{digit_byte, every}
-use Rattle.ir_core.proofs.Lexing.{every_first, every_more, every_append}
-use Rattle.ir_core.proofs.Printed.{if_true, if_false}
+use Rattle.ir_core.proofs.Runs.{if_true, if_false, every_first, every_more, every_append}
 use Rattle.ir_core.specs.Numbers.{value_from, value_of, is_negative, magnitude, fits, modulo, is_number_in_range, kept_at}
 
 -- ---- the digits of a number, and what they spell

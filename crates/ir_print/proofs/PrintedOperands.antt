@@ -16,7 +16,8 @@ use Rattle.ir_core.specs.Grammar.{scalar_types, result_types, IsScalarType, IsRe
 use Rattle.ir_core.specs.Text.{is_word, name_text, local_text, global_name_text, type_text, type_layer, integer_text, number_text, value_text, typed_text}
 use Rattle.ir_core.specs.FirstForm.{is_width, is_scalar, is_number_of}
 use Rattle.ir_print.proofs.Signed.{half_of}
-use Rattle.ir_core.proofs.Printed.{Gives, gives_word, closes_word, closes_gives, Bare, bare, Lexed, Ends, word_lexed, local_lexed, global_lexed, number_lexed, minus_lexed, if_true, if_false}
+use Rattle.ir_core.proofs.Printed.{Gives, gives_word, closes_word, closes_gives, Bare, bare, Lexed, Ends, word_lexed, local_lexed, global_lexed, number_lexed, minus_lexed}
+use Rattle.ir_core.proofs.Runs.{if_true, if_false}
 use Rattle.ir_print.proofs.PrintedNumbers.{decimal_digits, plain_in_range, plain_kept, minus_in_range, minus_kept}
 use Rattle.ir_core.proofs.Spelled.{Spelled, Shows, spelled_done, token_same, shows_in}
 
@@ -196,24 +197,24 @@ shows_number width n h l = shows_by width n (shown width n h l)
 
 -- ---- the tokens of numbers
 
-truth_lexed : (n : ℕ) (rest : List ℕ) (ls : List Bare) → (n ≡ 0) ⊎ (n ≡ 1) → Ends rest → Lexed rest ls → Lexed (number_text (IntTy 1) n ++ rest) (number_bare (IntTy 1) n ∷ ls)
-truth_lexed n rest ls (inl z) e r = subst (λ n. Lexed (number_text (IntTy 1) n ++ rest) (number_bare (IntTy 1) n ∷ ls)) (sym z) (word_lexed (codes "false") rest ls refl e r)
-truth_lexed n rest ls (inr z) e r = subst (λ n. Lexed (number_text (IntTy 1) n ++ rest) (number_bare (IntTy 1) n ∷ ls)) (sym z) (word_lexed (codes "true") rest ls refl e r)
+truth_lexed : (d : ℕ) (n : ℕ) (rest : List ℕ) (ls : List Bare) → (n ≡ 0) ⊎ (n ≡ 1) → Ends rest → Lexed d rest ls → Lexed d (number_text (IntTy 1) n ++ rest) (number_bare (IntTy 1) n ∷ ls)
+truth_lexed d n rest ls (inl z) e r = subst (λ n. Lexed d (number_text (IntTy 1) n ++ rest) (number_bare (IntTy 1) n ∷ ls)) (sym z) (word_lexed d (codes "false") rest ls refl e r)
+truth_lexed d n rest ls (inr z) e r = subst (λ n. Lexed d (number_text (IntTy 1) n ++ rest) (number_bare (IntTy 1) n ∷ ls)) (sym z) (word_lexed d (codes "true") rest ls refl e r)
 
 -- a number token
-digits_lexed : (width n : ℕ) (rest : List ℕ) (ls : List Bare) (bytes : List ℕ) → (width == 1) ≡ false → number_text (IntTy width) n ≡ bytes → Lexed (bytes ++ rest) (bare Number bytes ∷ ls) → Lexed (number_text (IntTy width) n ++ rest) (number_bare (IntTy width) n ∷ ls)
-digits_lexed width n rest ls bytes w e r =
+digits_lexed : (d : ℕ) (width n : ℕ) (rest : List ℕ) (ls : List Bare) (bytes : List ℕ) → (width == 1) ≡ false → number_text (IntTy width) n ≡ bytes → Lexed d (bytes ++ rest) (bare Number bytes ∷ ls) → Lexed d (number_text (IntTy width) n ++ rest) (number_bare (IntTy width) n ∷ ls)
+digits_lexed d width n rest ls bytes w e r =
     let k : bare Number bytes ≡ number_bare (IntTy width) n = (λ i. bare (sym (if_false (width == 1) Word Number w) i) (sym e i)) in
-    subst (λ t. Lexed (t ++ rest) (number_bare (IntTy width) n ∷ ls)) (sym e) (subst (λ b. Lexed (bytes ++ rest) (b ∷ ls)) k r)
+    subst (λ t. Lexed d (t ++ rest) (number_bare (IntTy width) n ∷ ls)) (sym e) (subst (λ b. Lexed d (bytes ++ rest) (b ∷ ls)) k r)
 
-lexed_by : (width n : ℕ) (rest : List ℕ) (ls : List Bare) → Shown width n → Ends rest → Lexed rest ls → Lexed (number_text (IntTy width) n ++ rest) (number_bare (IntTy width) n ∷ ls)
-lexed_by width n rest ls (truth e z) k r = subst (λ w. Lexed (number_text (IntTy w) n ++ rest) (number_bare (IntTy w) n ∷ ls)) (sym e) (truth_lexed n rest ls z k r)
-lexed_by width n rest ls (plain w e h l) k r = digits_lexed width n rest ls (decimal n) w e (number_lexed (decimal n) rest ls (decimal_nonempty n h) (decimal_digits n h) k r)
-lexed_by width n rest ls (minus w m e h l s p d) k r = let small : m < 2 ^ 64 = omega arith in digits_lexed width n rest ls (45 ∷ decimal m) w e (minus_lexed (decimal m) rest ls (decimal_nonempty m small) (decimal_digits m small) k r)
+lexed_by : (d : ℕ) (width n : ℕ) (rest : List ℕ) (ls : List Bare) → Shown width n → Ends rest → Lexed d rest ls → Lexed d (number_text (IntTy width) n ++ rest) (number_bare (IntTy width) n ∷ ls)
+lexed_by d width n rest ls (truth e z) k r = subst (λ w. Lexed d (number_text (IntTy w) n ++ rest) (number_bare (IntTy w) n ∷ ls)) (sym e) (truth_lexed d n rest ls z k r)
+lexed_by d width n rest ls (plain w e h l) k r = digits_lexed d width n rest ls (decimal n) w e (number_lexed d (decimal n) rest ls (decimal_nonempty n h) (decimal_digits n h) k r)
+lexed_by d width n rest ls (minus w m e h l s p q) k r = let small : m < 2 ^ 64 = omega arith in digits_lexed d width n rest ls (45 ∷ decimal m) w e (minus_lexed d (decimal m) rest ls (decimal_nonempty m small) (decimal_digits m small) k r)
 
 -- a printed number is one token
-pub number_lexed_at : (width n : ℕ) (rest : List ℕ) (ls : List Bare) → is_width width ≡ true → n < 2 ^ width → Ends rest → Lexed rest ls → Lexed (number_text (IntTy width) n ++ rest) (number_bare (IntTy width) n ∷ ls)
-number_lexed_at width n rest ls h l e r = lexed_by width n rest ls (shown width n h l) e r
+pub number_lexed_at : (d : ℕ) (width n : ℕ) (rest : List ℕ) (ls : List Bare) → is_width width ≡ true → n < 2 ^ width → Ends rest → Lexed d rest ls → Lexed d (number_text (IntTy width) n ++ rest) (number_bare (IntTy width) n ∷ ls)
+number_lexed_at d width n rest ls h l e r = lexed_by d width n rest ls (shown width n h l) e r
 
 -- ---- operands
 
@@ -235,22 +236,22 @@ GoodValue ty (GlobalValue x) = is_word x ≡ true
 pub plain_name : (x : List ℕ) → is_word x ≡ true → name_text x ≡ x
 plain_name x h = if_true _ _ _ h
 
-pub local_text_lexed : (x rest : List ℕ) (ls : List Bare) → is_word x ≡ true → Ends rest → Lexed rest ls → Lexed (local_text x ++ rest) (bare Local (37 ∷ x) ∷ ls)
-local_text_lexed x rest ls h e r = subst (λ t. Lexed (37 ∷ (t ++ rest)) (bare Local (37 ∷ x) ∷ ls)) (sym (plain_name x h)) (local_lexed x rest ls h e r)
+pub local_text_lexed : (d : ℕ) (x rest : List ℕ) (ls : List Bare) → is_word x ≡ true → Ends rest → Lexed d rest ls → Lexed d (local_text x ++ rest) (bare Local (37 ∷ x) ∷ ls)
+local_text_lexed d x rest ls h e r = subst (λ t. Lexed d (37 ∷ (t ++ rest)) (bare Local (37 ∷ x) ∷ ls)) (sym (plain_name x h)) (local_lexed d x rest ls h e r)
 
-pub global_text_lexed : (x rest : List ℕ) (ls : List Bare) → is_word x ≡ true → Ends rest → Lexed rest ls → Lexed (global_name_text x ++ rest) (bare Global (64 ∷ x) ∷ ls)
-global_text_lexed x rest ls h e r = subst (λ t. Lexed (64 ∷ (t ++ rest)) (bare Global (64 ∷ x) ∷ ls)) (sym (plain_name x h)) (global_lexed x rest ls h e r)
+pub global_text_lexed : (d : ℕ) (x rest : List ℕ) (ls : List Bare) → is_word x ≡ true → Ends rest → Lexed d rest ls → Lexed d (global_name_text x ++ rest) (bare Global (64 ∷ x) ∷ ls)
+global_text_lexed d x rest ls h e r = subst (λ t. Lexed d (64 ∷ (t ++ rest)) (bare Global (64 ∷ x) ∷ ls)) (sym (plain_name x h)) (global_lexed d x rest ls h e r)
 
-any_number_lexed : (ty : Ty) (n : ℕ) (rest : List ℕ) (ls : List Bare) → is_scalar ty ≡ true → is_number_of n ty ≡ true → Ends rest → Lexed rest ls → Lexed (number_text ty n ++ rest) (number_bare ty n ∷ ls)
-any_number_lexed (IntTy width) n rest ls s h e r = number_lexed_at width n rest ls s (ltb-true n (2 ^ width) h) e r
-any_number_lexed _ n rest ls s h e r = absurd (let f : false ≡ true = h in cc)
+any_number_lexed : (d : ℕ) (ty : Ty) (n : ℕ) (rest : List ℕ) (ls : List Bare) → is_scalar ty ≡ true → is_number_of n ty ≡ true → Ends rest → Lexed d rest ls → Lexed d (number_text ty n ++ rest) (number_bare ty n ∷ ls)
+any_number_lexed d (IntTy width) n rest ls s h e r = number_lexed_at d width n rest ls s (ltb-true n (2 ^ width) h) e r
+any_number_lexed d _ n rest ls s h e r = absurd (let f : false ≡ true = h in cc)
 
 -- a printed operand is one token
-pub value_lexed : (ty : Ty) (v : Value) (rest : List ℕ) (ls : List Bare) → is_scalar ty ≡ true → GoodValue ty v → Ends rest → Lexed rest ls → Lexed (value_text ty v ++ rest) (value_bare ty v ∷ ls)
-value_lexed ty (IntValue n) rest ls s h e r = any_number_lexed ty n rest ls s h e r
-value_lexed ty Null rest ls s h e r = word_lexed (codes "null") rest ls refl e r
-value_lexed ty (Register x) rest ls s h e r = local_text_lexed x rest ls h e r
-value_lexed ty (GlobalValue x) rest ls s h e r = global_text_lexed x rest ls h e r
+pub value_lexed : (d : ℕ) (ty : Ty) (v : Value) (rest : List ℕ) (ls : List Bare) → is_scalar ty ≡ true → GoodValue ty v → Ends rest → Lexed d rest ls → Lexed d (value_text ty v ++ rest) (value_bare ty v ∷ ls)
+value_lexed d ty (IntValue n) rest ls s h e r = any_number_lexed d ty n rest ls s h e r
+value_lexed d ty Null rest ls s h e r = word_lexed d (codes "null") rest ls refl e r
+value_lexed d ty (Register x) rest ls s h e r = local_text_lexed d x rest ls h e r
+value_lexed d ty (GlobalValue x) rest ls s h e r = global_text_lexed d x rest ls h e r
 
 -- a name behind its sign stands for the name
 pub shows_local : (x : List ℕ) → Shows IsLocal (bare Local (37 ∷ x)) (λ y. y ≡ x)
@@ -281,7 +282,7 @@ typed_bare v = type_bare v.ty ∷ value_bare v.ty v.value ∷ []
 
 -- texts of operands and of types
 pub gives_value_text : (ty : Ty) (v : Value) → is_scalar ty ≡ true → GoodValue ty v → Gives (value_text ty v) (value_bare ty v ∷ [])
-gives_value_text ty v s h = record { before = λ rest ms e r. value_lexed ty v rest ms s h e r }
+gives_value_text ty v s h = record { before = λ d rest ms e r. value_lexed d ty v rest ms s h e r }
 
 pub gives_scalar : (ty : Ty) → is_scalar ty ≡ true → Gives (type_text ty) (type_bare ty ∷ [])
 gives_scalar ty h = gives_word (type_text ty) (scalar_word ty h).0
@@ -296,10 +297,10 @@ abbrev pub global_bare : List ℕ → Bare
 global_bare x = bare Global (64 ∷ x)
 
 pub gives_local : (x : List ℕ) → is_word x ≡ true → Gives (local_text x) (local_bare x ∷ [])
-gives_local x h = record { before = λ rest ms e r. local_text_lexed x rest ms h e r }
+gives_local x h = record { before = λ d rest ms e r. local_text_lexed d x rest ms h e r }
 
 pub gives_global : (x : List ℕ) → is_word x ≡ true → Gives (global_name_text x) (global_bare x ∷ [])
-gives_global x h = record { before = λ rest ms e r. global_text_lexed x rest ms h e r }
+gives_global x h = record { before = λ d rest ms e r. global_text_lexed d x rest ms h e r }
 
 -- an operand with its type
 pub gives_typed : (v : Typed) → GoodTyped v → Gives (typed_text v) (typed_bare v)

@@ -3,7 +3,7 @@ use Rattle.std.proofs.Common.{◌≡◌, ℕ, ◌-◌, List, [], ◌∷◌, Opti
 use Rattle.std.specs.Str.{bytes_eq}
 use Rattle.std.proofs.lemmas.Slice.Eq.{bytes_eq-Decides}
 use Rattle.std.proofs.lemmas.Bool.Decides.{Decides-eqb}
-use Rattle.ir_core.specs.Tokens.{Lexeme, TokenKind, Word, Local, Global, Label, Number, Mark, Bad, Past}
+use Rattle.ir_core.specs.Tokens.{Lexeme, TokenKind, Word, Local, Global, Label, Mark}
 use Rattle.ir_core.specs.Spell.{InTable, IsWordIn, IsWord, IsMark, with_line}
 use Rattle.ir_core.specs.Grammar.{IsLocal, IsGlobal, IsLabel}
 use Rattle.ir_read.specs.Read.{is_word, is_local, is_global, is_label, is_mark, as_local, as_global, as_label, as_mark, spells_word, as_word, look_up, as_table, lined, with_line_of}
@@ -71,53 +71,23 @@ look_only (a ∷ es) x v d (inr i) = elim (chosen (fresh a.0 es) _ _ _ d) [
 -- ---- kinds
 word_kind : (k : TokenKind) → is_word k ≡ true → k ≡ Word
 word_kind Word e = refl
-word_kind Local e = let f : ⊥ = cc in absurd f
-word_kind Global e = let f : ⊥ = cc in absurd f
-word_kind Label e = let f : ⊥ = cc in absurd f
-word_kind Number e = let f : ⊥ = cc in absurd f
-word_kind (Mark m) e = let f : ⊥ = cc in absurd f
-word_kind Bad e = let f : ⊥ = cc in absurd f
-word_kind Past e = let f : ⊥ = cc in absurd f
+word_kind _ e = absurd (let f : false ≡ true = e in cc)
 
 local_kind : (k : TokenKind) → is_local k ≡ true → k ≡ Local
 local_kind Local e = refl
-local_kind Word e = let f : ⊥ = cc in absurd f
-local_kind Global e = let f : ⊥ = cc in absurd f
-local_kind Label e = let f : ⊥ = cc in absurd f
-local_kind Number e = let f : ⊥ = cc in absurd f
-local_kind (Mark m) e = let f : ⊥ = cc in absurd f
-local_kind Bad e = let f : ⊥ = cc in absurd f
-local_kind Past e = let f : ⊥ = cc in absurd f
+local_kind _ e = absurd (let f : false ≡ true = e in cc)
 
 global_kind : (k : TokenKind) → is_global k ≡ true → k ≡ Global
 global_kind Global e = refl
-global_kind Word e = let f : ⊥ = cc in absurd f
-global_kind Local e = let f : ⊥ = cc in absurd f
-global_kind Label e = let f : ⊥ = cc in absurd f
-global_kind Number e = let f : ⊥ = cc in absurd f
-global_kind (Mark m) e = let f : ⊥ = cc in absurd f
-global_kind Bad e = let f : ⊥ = cc in absurd f
-global_kind Past e = let f : ⊥ = cc in absurd f
+global_kind _ e = absurd (let f : false ≡ true = e in cc)
 
 label_kind : (k : TokenKind) → is_label k ≡ true → k ≡ Label
 label_kind Label e = refl
-label_kind Word e = let f : ⊥ = cc in absurd f
-label_kind Local e = let f : ⊥ = cc in absurd f
-label_kind Global e = let f : ⊥ = cc in absurd f
-label_kind Number e = let f : ⊥ = cc in absurd f
-label_kind (Mark m) e = let f : ⊥ = cc in absurd f
-label_kind Bad e = let f : ⊥ = cc in absurd f
-label_kind Past e = let f : ⊥ = cc in absurd f
+label_kind _ e = absurd (let f : false ≡ true = e in cc)
 
 mark_kind : (m : ℕ) (k : TokenKind) → is_mark m k ≡ true → k ≡ Mark m
 mark_kind m (Mark n) e = ap Mark ((Decides-eqb n m).0 e)
-mark_kind m Word e = let f : ⊥ = cc in absurd f
-mark_kind m Local e = let f : ⊥ = cc in absurd f
-mark_kind m Global e = let f : ⊥ = cc in absurd f
-mark_kind m Label e = let f : ⊥ = cc in absurd f
-mark_kind m Number e = let f : ⊥ = cc in absurd f
-mark_kind m Bad e = let f : ⊥ = cc in absurd f
-mark_kind m Past e = let f : ⊥ = cc in absurd f
+mark_kind m _ e = absurd (let f : false ≡ true = e in cc)
 
 -- a test of the kind, and what the token's bytes and line give
 module _ {X : Type 0} (test : TokenKind → Bool) (kind : TokenKind) (exact : (k : TokenKind) → test k ≡ true → k ≡ kind) (holds : test kind ≡ true) (get : Lexeme → X) where

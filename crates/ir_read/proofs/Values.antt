@@ -1,9 +1,9 @@
 -- The tests of an operand are exact.
-use Rattle.std.proofs.Common.{◌≡◌, ℕ, List, [], drop, Some, None, cond, refl, sym, ap, ◌∙◌, subst, inl, inr}
+use Rattle.std.proofs.Common.{◌≡◌, ℕ, List, [], drop, Option, Some, None, cond, refl, sym, ap, ◌∙◌, subst, inl, inr}
 use Rattle.ir_core.specs.declared.types.Ty.{Ty}
 use Rattle.ir_core.specs.declared.instructions.Value.{Value}
 use Rattle.ir_core.specs.declared.instructions.Value.TheVariants.{Int as IntValue, Null, Local as Register, Global as GlobalValue}
-use Rattle.ir_core.specs.Tokens.{Lexeme, TokenKind, Word, Local, Global, Label, Number, Mark, Bad, Past}
+use Rattle.ir_core.specs.Tokens.{Lexeme, TokenKind, Word, Local, Global, Number}
 use Rattle.ir_core.specs.Spell.{InTable}
 use Rattle.ir_core.specs.Numbers.{is_number_in_range, kept_at}
 use Rattle.ir_core.specs.Grammar.{IsValue, truth_words}
@@ -33,10 +33,7 @@ value_found_by ty t v Number k e = number_found ty t v k e
 value_found_by ty t v Word k e = literal_is ty t v k (look_found literals t.bytes v e)
 value_found_by ty t v Local k e = subst (IsValue ty t) (some_is (Register (drop 1 t.bytes)) v e) (k, refl)
 value_found_by ty t v Global k e = subst (IsValue ty t) (some_is (GlobalValue (drop 1 t.bytes)) v e) (k, refl)
-value_found_by ty t v Label k e = let f : ⊥ = cc in absurd f
-value_found_by ty t v (Mark m) k e = let f : ⊥ = cc in absurd f
-value_found_by ty t v Bad k e = let f : ⊥ = cc in absurd f
-value_found_by ty t v Past k e = let f : ⊥ = cc in absurd f
+value_found_by ty t v _ k e = absurd (let f : ◌≡◌ {A = Option Value} None (Some v) = e in cc)
 
 by_kind : (ty : Ty) (t : Lexeme) (kind : TokenKind) → t.kind ≡ kind → as_value ty t ≡ value_by ty t.bytes kind
 by_kind ty t kind k = ap (value_by ty t.bytes) k

@@ -23,10 +23,10 @@ use Rattle.mem_model.proofs.Orders.{block_total, block_same}
 use Rattle.mem_model.proofs.AccessTests.{gone, released_traps}
 use Rattle.mem_model.proofs.StoreLaws.{put_apart, put_back, bytes_same, load_same, ok_same}
 
-header_here : (x : FinMap block_cmp Header) (a : BlockName) (h : Header) → fin.get (fin.insert x a h) a ≡ Some h
+pub header_here : (x : FinMap block_cmp Header) (a : BlockName) (h : Header) → fin.get (fin.insert x a h) a ≡ Some h
 header_here x a h = get-insert block_total x a h a ∙ ap (λ t. cond t (Some h) (fin.get x a)) ((eq_by_cmp_equiv block_total).refl a)
 
-header_apart : (x : FinMap block_cmp Header) (a b : BlockName) (h : Header) → (b ≡ a → ⊥) → fin.get (fin.insert x a h) b ≡ fin.get x b
+pub header_apart : (x : FinMap block_cmp Header) (a b : BlockName) (h : Header) → (b ≡ a → ⊥) → fin.get (fin.insert x a h) b ≡ fin.get x b
 header_apart x a b h not = get-insert block_total x a h b ∙ ap (λ t. cond t (Some h) (fin.get x b)) (false_from_ne_true (eq_by_cmp block_cmp b a) (λ e. not (block_same b a e)))
 
 -- a load gives the same in two memories that agree on its block

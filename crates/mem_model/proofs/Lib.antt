@@ -6,3 +6,8 @@ pub mod WordLaws
 pub mod StoreLaws
 pub mod BlockLaws
 pub mod PointerLaws
+pub mod Widths
+pub mod Spelling
+pub mod KeptLaws
+pub mod Changes
+pub mod Calls

@@ -9,13 +9,8 @@ use Rattle.std.proofs.lemmas.Bool.Decides.{nat_tests}
 use Rattle.std.proofs.lemmas.Cmp.{on_total, then_total, nat_cmp_total}
 use Rattle.mem_model.specs.declared.memory.BlockName.{BlockName}
 use Rattle.mem_model.specs.declared.memory.BlockName.TheVariants.{Arg, Global, Heap, Stack, Captures, Code}
-use Rattle.mem_model.specs.Blocks.{block_code, code_cmp, block_cmp, place_cmp, same_block}
-
-code_total : IsTotalOrder code_cmp
-code_total = then_total (on_total (λ (x : ℕ × (ℕ × ℕ)). x.0) nat_cmp_total) (then_total (on_total (λ (x : ℕ × (ℕ × ℕ)). x.1.0) nat_cmp_total) (on_total (λ (x : ℕ × (ℕ × ℕ)). x.1.1) nat_cmp_total))
-
-pub block_total : IsTotalOrder block_cmp
-block_total = on_total block_code code_total
+pub use Rattle.mem_model.specs.Orders.{block_total}
+use Rattle.mem_model.specs.Blocks.{block_code, code_cmp, place_cmp, same_block}
 
 pub place_total : IsTotalOrder place_cmp
 place_total = then_total (on_total (λ (x : BlockName × ℕ). x.0) block_total) (on_total (λ (x : BlockName × ℕ). x.1) nat_cmp_total)

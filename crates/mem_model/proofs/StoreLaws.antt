@@ -27,10 +27,10 @@ place_apart : (a b : BlockName) (o p : ℕ) → (a ≡ b → o ≡ p → ⊥) �
 place_apart a b o p not =
     false_from_ne_true (eq_by_cmp place_cmp (a, o) (b, p)) (λ e. let q : (same_block a b ≡ true) × (is_eq (nat_cmp o p) ≡ true) = and_parts _ _ (sym (both_equal (block_cmp a b) (nat_cmp o p)) ∙ e) in not (block_same a b q.0) (number_same o p q.1))
 
-insert_here : (y : FinMap place_cmp Byte) (a : BlockName) (o : ℕ) (v : Byte) → fin.get (fin.insert y (a, o) v) (a, o) ≡ Some v
+pub insert_here : (y : FinMap place_cmp Byte) (a : BlockName) (o : ℕ) (v : Byte) → fin.get (fin.insert y (a, o) v) (a, o) ≡ Some v
 insert_here y a o v = get-insert place_total y (a, o) v (a, o) ∙ ap (λ t. cond t (Some v) (fin.get y (a, o))) ((eq_by_cmp_equiv place_total).refl (a, o))
 
-insert_apart : (y : FinMap place_cmp Byte) (a b : BlockName) (o p : ℕ) (v : Byte) → (b ≡ a → p ≡ o → ⊥) → fin.get (fin.insert y (a, o) v) (b, p) ≡ fin.get y (b, p)
+pub insert_apart : (y : FinMap place_cmp Byte) (a b : BlockName) (o p : ℕ) (v : Byte) → (b ≡ a → p ≡ o → ⊥) → fin.get (fin.insert y (a, o) v) (b, p) ≡ fin.get y (b, p)
 insert_apart y a b o p v not = get-insert place_total y (a, o) v (b, p) ∙ ap (λ t. cond t (Some v) (fin.get y (b, p))) (place_apart b a p o not)
 
 -- ---- many bytes

@@ -63,7 +63,7 @@ word_back PtrCell (Address (At block offset)) holds = address_back block offset
 
 -- ---- how many bytes
 
-number_length : (size n : ℕ) → length (number_bytes size n) ≡ size
+pub number_length : (size n : ℕ) → length (number_bytes size n) ≡ size
 number_length zero n = refl
 number_length (suc size) n = ap suc (number_length size (n / 256))
 

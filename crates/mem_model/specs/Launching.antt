@@ -1,6 +1,5 @@
 -- Launches of kernels: which fit a module, the memory at the start, and what is seen of a run.
-use Rattle.std.specs.Prelude.{◌≡◌, ℕ, ℤ, ◌+◌, ◌^◌, ◌<◌, ◌≤◌, List, [], ◌∷◌, ◌++◌, length, map, Bool, true, false, cond, Option, Some, None, slice_get, if◌then◌else◌}
-use Rattle.std.specs.Str.{bytes_eq}
+use Rattle.std.specs.Prelude.{◌≡◌, ℕ, ℤ, ◌+◌, ◌^◌, ◌<◌, ◌≤◌, List, [], ◌∷◌, ◌++◌, length, map, Bool, true, false, Option, Some, None, slice_get, if◌then◌else◌}
 use Rattle.ir_core.specs.declared.types.Ty.{Ty}
 use Rattle.ir_core.specs.declared.types.Ty.TheVariants.{Int as IntTy, Ptr as PtrTy}
 use Rattle.ir_core.specs.declared.module.Module.{Module}
@@ -19,9 +18,10 @@ use Rattle.mem_model.specs.declared.memory.Byte.TheVariants.{Num}
 use Rattle.mem_model.specs.declared.memory.Word.{Word}
 use Rattle.mem_model.specs.declared.memory.Word.TheVariants.{Int, Ptr as Address}
 use Rattle.mem_model.specs.Memory.{Memory, no_blocks, with_block, block_limit, shown_block}
-use Rattle.mem_model.specs.Thread.{Registers, no_registers, Answers, ThreadState}
-use Rattle.mem_model.specs.Code.{function_place}
+use Rattle.mem_model.specs.Thread.{Registers, bound, Answers, ThreadState}
+use Rattle.ir_core.specs.Places.{function_place}
 use Rattle.mem_model.specs.Do.{Common}
+use Rattle.mem_model.specs.Globals.{with_globals}
 use Rattle.mem_model.specs.Bound.{Counted, whole_bound}
 
 -- ---- launches that fit
@@ -80,16 +80,16 @@ arg_word i (Buffer bytes) = Address (At (ArgBlock i) (ℤ.pos 0))
 arg_word i (IntArg n) = Int n
 arg_word i Null = Address (Number 0)
 
-abbrev pub registers_from : ℕ → List Param → List Arg → Registers
-registers_from i (p ∷ ps) (a ∷ as_) = λ x. cond (bytes_eq x p.name) (Some (arg_word i a)) (registers_from (i + 1) ps as_ x)
-registers_from i _ _ = no_registers
+abbrev pub arg_words : ℕ → List Arg → List Word
+arg_words i [] = []
+arg_words i (a ∷ as_) = arg_word i a ∷ arg_words (i + 1) as_
 
 abbrev pub params_of : Option Function → List Param
 params_of None = []
 params_of (Some f) = f.params
 
 abbrev pub first_registers : Module → ℕ → Launch → Registers
-first_registers m k l = registers_from 0 (params_of (slice_get m.functions k)) l.args
+first_registers m k l = bound (params_of (slice_get m.functions k)) (arg_words 0 l.args)
 
 -- a thread with this number at the start of the kernel; where there is none, it has no call
 abbrev pub thread_at : Module → Launch → ℕ → Answers → Option ℕ → ThreadState
@@ -112,9 +112,9 @@ abbrev pub with_buffers : ℕ → List Arg → Memory → Memory
 with_buffers i [] m = m
 with_buffers i (a ∷ as_) m = with_buffers (i + 1) as_ (with_buffer i a m)
 
--- the buffers of the arguments; globals come with the layout of their types
-abbrev pub first_memory : Launch → Memory
-first_memory l = with_buffers 0 l.args no_blocks
+-- the buffers of the arguments, and the globals with their initializers
+abbrev pub first_memory : Module → Launch → Memory
+first_memory m l = with_globals m 0 m.globals (with_buffers 0 l.args no_blocks)
 
 -- nothing is printed at the start
 abbrev pub first_common : Memory → Common

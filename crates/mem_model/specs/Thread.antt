@@ -1,6 +1,8 @@
 -- One thread: its calls, its registers, its own stack, and what the entry points answer to it.
 use Rattle.std.specs.Prelude.{ℕ, ℤ, ◌+◌, List, [], ◌∷◌, ◌++◌, length, map, take, drop, Bool, cond, ◌&&◌, Option, Some, None, Result, Ok, Err, ◌==◌}
 use Rattle.std.specs.Str.{bytes_eq}
+use Rattle.ir_core.specs.declared.module.Param.{Param}
+pub use Rattle.ir_core.specs.Places.{Name, Place}
 use Rattle.mem_model.specs.declared.memory.BlockName.TheVariants.{Arg, Global, Heap, Stack, Captures, Code as CodeBlock}
 use Rattle.mem_model.specs.declared.memory.Ptr.{Ptr}
 use Rattle.mem_model.specs.declared.memory.Ptr.TheVariants.{Num as Number, At}
@@ -13,16 +15,7 @@ use Rattle.mem_model.specs.declared.step.Trap.TheVariants.{NoBlock}
 use Rattle.mem_model.specs.Memory.{Given, Shares, Leaks, inside}
 use Rattle.mem_model.specs.Words.{cell_size, word_bytes, word_in}
 
-abbrev pub Name : Type 0
-Name = List ℕ
-
 -- ---- the state of a thread
-
--- where an instruction stands: the places of its function, block and itself, each from 0
-pub record Place : Type 0 where
-  pub function : ℕ
-  pub block : ℕ
-  pub index : ℕ
 
 -- the registers that are assigned
 abbrev pub Registers : Type 0
@@ -66,6 +59,11 @@ no_registers = λ x. None
 abbrev pub assigned : Registers → Option Name → Word → Registers
 assigned r None word = r
 assigned r (Some x) word = λ y. cond (bytes_eq y x) (Some word) (r y)
+
+-- the words of a call's operands in the registers of its parameters
+abbrev pub bound : List Param → List Word → Registers
+bound (p ∷ ps) (word ∷ words) = λ x. cond (bytes_eq x p.name) (Some word) (bound ps words x)
+bound _ _ = no_registers
 
 -- ---- the own stack
 

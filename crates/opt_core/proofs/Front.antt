@@ -3,7 +3,7 @@ use Rattle.std.proofs.Common.{◌≡◌, ◌⊎◌, ℕ, ◌+◌, ◌<◌, ◌�
 use Rattle.std.proofs.lemmas.List.{take-take}
 use Rattle.std.proofs.lemmas.Bool.{lt-ltb, le-ltb, cases_lt}
 use Rattle.ir_core.specs.declared.module.Module.{Module}
-use Rattle.ir_core.specs.Tokens.{Token, Past, Pieces, tokens_from, text_limit, has_bad, past_limit, with_past, line_ends, Lexes, lexemes}
+use Rattle.ir_core.specs.Tokens.{Token, Past, text_start, Pieces, tokens_from, text_limit, has_bad, past_limit, with_past, line_ends, Lexes, lexemes}
 use Rattle.ir_core.specs.Grammar.{functions_to_end, Reads}
 use Rattle.opt_core.specs.Outside.{read_limit}
 use Rattle.opt_core.specs.Answer.{Accepts, IsTextReply, IsFileReply}
@@ -25,7 +25,7 @@ past_same a b ts e =
 lexes_same : (a b : List ℕ) (ts : List Token) → Alike a b → Lexes a ts → Lexes b ts
 lexes_same a b ts e (ps, pieces, same) = (
   ps,
-  subst (λ t. Pieces t ps) e.fronts pieces,
+  subst (λ t. Pieces text_start t ps) e.fronts pieces,
   same ∙ ap (λ t. with_past a (tokens_from t 0 ps)) e.fronts ∙ ap (λ past. tokens_from (take text_limit b) 0 ps ++ past) (past_same a b (tokens_from (take text_limit b) 0 ps) e),
 )
 

@@ -1,4 +1,4 @@
--- Two memories that agree but for the capture area: loads and stores agree.
+-- Two memories that agree but for the capture area: loads, stores and updates agree.
 use Rattle.std.proofs.Common.{◌≡◌, ℕ, zero, suc, ◌+◌, List, [], ◌∷◌, length, map, Bool, true, false, cond, Some, None, Result, Ok, Err, refl, sym, ap, ◌∙◌, subst, inl, inr, ◌⊎◌}
 use Rattle.std.specs.FinMap as fin
 use Rattle.std.specs.FinMap.{FinMap, get-insert}
@@ -8,12 +8,15 @@ use Rattle.mem_model.specs.declared.memory.BlockName.TheVariants.{Arg, Global, H
 use Rattle.mem_model.specs.declared.memory.Ptr.{Ptr}
 use Rattle.mem_model.specs.declared.memory.Ptr.TheVariants.{Num as Number, At}
 use Rattle.mem_model.specs.declared.memory.Byte.{Byte}
+use Rattle.mem_model.specs.declared.memory.Word.{Word}
+use Rattle.mem_model.specs.declared.memory.Word.TheVariants.{Int, Ptr as Address}
 use Rattle.mem_model.specs.declared.memory.Cell.{Cell}
 use Rattle.mem_model.specs.declared.step.Trap.{Trap}
 use Rattle.mem_model.specs.declared.step.Trap.TheVariants.{NoBlock}
 use Rattle.mem_model.specs.Blocks.{block_cmp, place_cmp}
 use Rattle.mem_model.specs.Words.{cell_size, word_bytes, word_in}
 use Rattle.mem_model.specs.Memory.{Memory, Given, Shares, Leaks, access, byte_or_zero, bytes_at, load_from, Load, put_bytes, store_given, store_to, Store, header_size, shown_byte, shown_block, with_block}
+use Rattle.mem_model.specs.Update.{Updated, update_number, update_at, Update}
 use Rattle.mem_model.proofs.Orders.{block_total, place_total}
 use Rattle.mem_model.proofs.StoreLaws.{put_apart}
 
@@ -81,6 +84,31 @@ store_alike m n a (Number k) c given = inr refl
 store_alike m n a (At b o) c given = elim (captures_or_plain b) [
   | inl e ↦ inl (ap (λ h. store_to m b c given (access h o (cell_size c) true)) (ap (fin.get m.blocks) e ∙ a.lacks))
   | inr plain ↦ inr (subst (λ h. BothStored (Store m (At b o) c given) (store_to n b c given (access h o (cell_size c) true))) (sym (a.blocks b plain)) (store_to_alike m n a b c given _))
+]
+
+-- what two updates leave: the same trap, or memories that are alike and the same number from before
+abbrev pub BothUpdated : Result Updated Trap → Result Updated Trap → Type 0
+BothUpdated (Ok u) (Ok v) = Alike u.memory v.memory × (v.old ≡ u.old)
+BothUpdated (Err e) (Err f) = e ≡ f
+BothUpdated (Ok u) (Err f) = ⊥
+BothUpdated (Err e) (Ok v) = ⊥
+
+update_number_alike : (m n : Memory) → Alike m n → (b : BlockName) (c : Cell) (o : ℕ) (change : ℕ → ℕ) (r : Result Word Trap) → BothUpdated (update_number m b c o change r) (update_number n b c o change r)
+update_number_alike m n a b c o change (Err e) = refl
+update_number_alike m n a b c o change (Ok (Address p)) = refl
+update_number_alike m n a b c o change (Ok (Int k)) = (record { lacks = a.lacks; blocks = a.blocks; bytes = put_alike m.bytes n.bytes a.bytes b o (word_bytes c (Int (change k))) }, refl)
+
+update_at_alike : (m n : Memory) → Alike m n → (b : BlockName) → IsPlain b → (c : Cell) (change : ℕ → ℕ) (r : Result ℕ Trap) → BothUpdated (update_at m b c change r) (update_at n b c change r)
+update_at_alike m n a b plain c change (Err e) = refl
+update_at_alike m n a b plain c change (Ok o) =
+    subst (λ bytes. BothUpdated (update_at m b c change (Ok o)) (update_number n b c o change (word_in c bytes))) (sym (bytes_alike m n a b plain o (cell_size c))) (update_number_alike m n a b c o change _)
+
+-- an update leaves memories that are alike and tells the same number, or finds no block in the old one
+pub update_alike : (m n : Memory) → Alike m n → (p : Ptr) (c : Cell) (change : ℕ → ℕ) → (Update m p c change ≡ Err NoBlock) ⊎ BothUpdated (Update m p c change) (Update n p c change)
+update_alike m n a (Number k) c change = inr refl
+update_alike m n a (At b o) c change = elim (captures_or_plain b) [
+  | inl e ↦ inl (ap (λ h. update_at m b c change (access h o (cell_size c) true)) (ap (fin.get m.blocks) e ∙ a.lacks))
+  | inr plain ↦ inr (subst (λ h. BothUpdated (Update m (At b o) c change) (update_at n b c change (access h o (cell_size c) true))) (sym (a.blocks b plain)) (update_at_alike m n a b plain c change _))
 ]
 
 -- ---- what is shown

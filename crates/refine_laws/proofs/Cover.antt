@@ -14,7 +14,7 @@ use Rattle.mem_model.specs.declared.launch.Arg.TheVariants.{Buffer, Int as IntAr
 use Rattle.mem_model.specs.declared.memory.BlockName.{BlockName}
 use Rattle.mem_model.specs.declared.step.End.{End}
 use Rattle.mem_model.specs.declared.step.End.TheVariants.{Running, Ended, Stuck, Trapped as TrappedEnd}
-use Rattle.mem_model.specs.Code.{function_place}
+use Rattle.ir_core.specs.Places.{function_place}
 use Rattle.mem_model.specs.Bound.{Counted, whole_bound}
 use Rattle.mem_model.specs.Runs.{run, Safe, Covers}
 use Rattle.mem_model.specs.Launching.{Fits, threads_limit, buffer_names, global_names, shown_names, counted, Bound}

@@ -5,17 +5,22 @@ use Rattle.std.proofs.lemmas.Bool.{cases_eq}
 use Rattle.std.proofs.lemmas.Option.{slice_get_within, slice_get-get_or}
 use Rattle.ir_core.specs.declared.module.Module.{Module}
 use Rattle.ir_core.specs.declared.module.Function.{Function}
+use Rattle.ir_core.specs.declared.instructions.RmwOp.{RmwOp}
 use Rattle.ir_core.specs.MachineOff.{machine_off}
 use Rattle.mem_model.specs.declared.launch.Launch.{Launch}
 use Rattle.mem_model.specs.declared.memory.Ptr.{Ptr}
 use Rattle.mem_model.specs.declared.memory.Word.{Word}
+use Rattle.mem_model.specs.declared.memory.Word.TheVariants.{Int}
 use Rattle.mem_model.specs.declared.memory.Cell.{Cell}
+use Rattle.mem_model.specs.declared.memory.Cell.TheVariants.{Int as IntCell}
 use Rattle.mem_model.specs.declared.step.Trap.{Trap}
 use Rattle.mem_model.specs.declared.step.Trap.TheVariants.{NoBlock}
 use Rattle.mem_model.specs.Memory.{Memory, Given, Load, Store}
+use Rattle.mem_model.specs.Update.{Updated, Update}
+use Rattle.mem_model.specs.Values.{updated}
 use Rattle.mem_model.specs.Thread.{ThreadState}
-use Rattle.mem_model.specs.Next.{Loads, Stores, Does, Deinit, Leaves, NextStep, Local, Pending, Done, Trapped, Next, resumed, line_at}
-use Rattle.mem_model.specs.Do.{loaded, stored}
+use Rattle.mem_model.specs.Next.{Loads, Stores, Updates, Does, Deinit, Leaves, NextStep, Local, Pending, Done, Trapped, Next, resumed, line_at}
+use Rattle.mem_model.specs.Do.{loaded, stored, changed}
 use Rattle.mem_model.specs.Runs.{run, then_run, Safe}
 use Rattle.mem_model.proofs.Runs.{some_injective, none_is_not_some}
 use Rattle.mem_model.proofs.Simulation.{IsReached, reached_then, Meets, MeetsEach}
@@ -27,7 +32,7 @@ use Rattle.team_model.specs.declared.Stand.TheVariants.{Runs, Waits, Ended as Go
 use Rattle.team_model.specs.Team as team
 use Rattle.team_model.specs.Team.{Team, TeamStep, by_next, by_thread, by_stand, unless_trapped, slot_after_deinit}
 use Rattle.refine_laws.proofs.SameNext.{next_same, resumed_same}
-use Rattle.refine_laws.proofs.AlikeMemory.{load_alike, store_alike, BothStored}
+use Rattle.refine_laws.proofs.AlikeMemory.{load_alike, store_alike, BothStored, update_alike, BothUpdated}
 use Rattle.refine_laws.proofs.KernelShape.{KernelShape, minus_one}
 use Rattle.refine_laws.proofs.Workers.{worker, worker_does, worker_next}
 use Rattle.refine_laws.proofs.Relation.{stand_of, worker_stand, team_moved, Tied, main_moves, main_leaves, worker_moves, worker_leaves}
@@ -112,6 +117,17 @@ module _ (m : Module) (l : Launch) (k : ℕ) (g : Function) (there : slice_get m
       (main_moves m l k g there sh s t n tie (resumed m s.main None) a b t.shared.slot alike)
       (ap (λ x. team_moved t l.threads x b t.shared.slot) (sym (resumed_same m s.main None)) ∙ e)
 
+  update_met : (s : SourceState) (t u : Team) (n : ℕ) → Reaches s → Tie s t n → s.returned ≡ false → (p : Ptr) (width : ℕ) (op : RmwOp) (v : ℕ) → Next m s.main ≡ Pending (Does (Updates p width op v)) → (a b : Result Updated Trap) →
+      Update s.common.memory p (IntCell width) (λ old. updated op width old v) ≡ a → (a ≡ Err NoBlock) ⊎ BothUpdated a b → team.acts out t l.threads s.main (changed t.shared.common b) ≡ u → IsMet s 1 n u
+  update_met s t u n r tie goes p width op v is (Err f) b h alike e =
+      no_trap s r f (source_moves m s _ (Pending (Does (Updates p width op v))) goes tie.source_goes tie.no_region is (ap (λ o. Some (source.acts m s (changed s.common o))) h))
+  update_met s t u n r tie goes p width op v is (Ok a) b h (inl f) e = let x : ⊥ = cc in absurd x
+  update_met s t u n r tie goes p width op v is (Ok a) (Err f) h (inr x) e = absurd x
+  update_met s t u n r tie goes p width op v is (Ok a) (Ok b) h (inr alike) e =
+      met s _ _ u n (source_moves m s _ (Pending (Does (Updates p width op v))) goes tie.source_goes tie.no_region is (ap (λ o. Some (source.acts m s (changed s.common o))) h))
+      (main_moves m l k g there sh s t n tie (resumed m s.main (Some (Int a.old))) a.memory b.memory t.shared.slot alike.0)
+      (ap (λ x. team_moved t l.threads x b.memory t.shared.slot) (ap (λ old. resumed m s.main (Some (Int old))) (sym alike.1) ∙ sym (resumed_same m s.main (Some (Int b.old)))) ∙ e)
+
   main_steps : (s : SourceState) (t u : Team) (n : ℕ) → Reaches s → Tie s t n → s.returned ≡ false → (nx : NextStep) → Next m s.main ≡ nx → by_next out t l.threads s.main nx ≡ Some u → IsMet s 1 n u
   main_steps s t u n r tie goes (Local v) is e =
       met s _ _ u n (source_moves m s _ (Local v) goes tie.source_goes tie.no_region is refl) (main_moves m l k g there sh s t n tie v s.common.memory t.shared.common.memory t.shared.slot tie.memory) (some_injective e)
@@ -127,6 +143,10 @@ module _ (m : Module) (l : Launch) (k : ℕ) (g : Function) (there : slice_get m
       load_met s t u n r tie goes p c is (Load s.common.memory p c) refl (load_alike s.common.memory t.shared.common.memory tie.memory p c) (some_injective e)
   main_steps s t u n r tie goes (Pending (Does (Stores p c v))) is e =
       store_met s t u n r tie goes p c v is (Store s.common.memory p c v) (Store t.shared.common.memory p c v) refl (store_alike s.common.memory t.shared.common.memory tie.memory p c v) (some_injective e)
+  main_steps s t u n r tie goes (Pending (Does (Updates p width op v))) is e =
+      let change : ℕ → ℕ = λ old. updated op width old v in
+      update_met s t u n r tie goes p width op v is (Update s.common.memory p (IntCell width) change) (Update t.shared.common.memory p (IntCell width) change) refl
+      (update_alike s.common.memory t.shared.common.memory tie.memory p (IntCell width) change) (some_injective e)
 
   -- a worker's step is met by none
   waits : (s : SourceState) (t u : Team) (n : ℕ) → (after : ℕ) × (1 + after ≤ n) × Tie s t after → t ≡ u → IsMet s 1 n u

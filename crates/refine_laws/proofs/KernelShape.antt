@@ -28,8 +28,9 @@ use Rattle.mem_model.specs.declared.memory.Word.TheVariants.{Int}
 use Rattle.mem_model.specs.declared.step.Trap.{Trap}
 use Rattle.mem_model.specs.Eval.{truth, compared}
 use Rattle.mem_model.specs.Thread.{Name, Frame, ThreadState}
-use Rattle.mem_model.specs.Code.{inst_in, block_name, labels, place_in}
-use Rattle.mem_model.specs.Next.{NextStep, Local, Pending, Leaves, register_word, with_found, with_number, with_result, value_word, goes_on, to_block, CallsInit, CallsDeinit, CallsOther, callee_of, next_call, next_kind, next_inst}
+use Rattle.ir_core.specs.Places.{inst_in, block_name, function_place, place_in, PhiNode, with_phi, leading_phis, phis_in}
+use Rattle.mem_model.specs.Values.{register_word, value_word}
+use Rattle.mem_model.specs.Next.{NextStep, Local, Pending, Leaves, with_found, with_number, with_result, goes_on, to_label, CallsInit, CallsDeinit, defined_at, callee_of, next_call, next_kind, next_inst}
 use Rattle.mem_model.specs.Launching.{is_kernel as is_launched}
 use Rattle.mem_model.proofs.Runs.{some_injective, none_is_not_some}
 use Rattle.team_model.specs.Team.{kind_modes, mode_operand, mode_number, inst_modes, block_modes, is_spmd_mode}
@@ -49,23 +50,23 @@ Tests i x y = (m : Module) (t : ThreadState) (f : Frame) (rest : List Frame) (n 
 
 -- the branch goes to the block with this name
 abbrev pub Branches : Option Inst → Name → Name → Type 0
-Branches i y exit = (m : Module) (t : ThreadState) (f : Frame) (rest : List Frame) → f.code.registers y ≡ Some (Int 0) → next_inst m t f rest i ≡ to_block t f rest (place_in (labels m f.code.at.function) exit)
+Branches i y exit = (m : Module) (t : ThreadState) (f : Frame) (rest : List Frame) → f.code.registers y ≡ Some (Int 0) → next_inst m t f rest i ≡ to_label m t f rest exit
 
 -- the return of the outermost call ends the thread
 abbrev pub Returns : Option Inst → Type 0
 Returns i = (m : Module) (t : ThreadState) (f : Frame) → next_inst m t f [] i ≡ Pending Leaves
 
-is_init_callee : (v : Value) → is_function target_init v ≡ true → callee_of v ≡ CallsInit
-is_init_callee (GlobalValue x) e = ap (λ b. if b then CallsInit else if bytes_eq x target_deinit then CallsDeinit else CallsOther) e
-is_init_callee (IntValue n) e = let f : ⊥ = cc in absurd f
-is_init_callee Null e = let f : ⊥ = cc in absurd f
-is_init_callee (Register x) e = let f : ⊥ = cc in absurd f
+is_init_callee : (m : Module) (v : Value) → is_function target_init v ≡ true → callee_of m v ≡ CallsInit
+is_init_callee m (GlobalValue x) e = ap (λ b. if b then CallsInit else if bytes_eq x target_deinit then CallsDeinit else defined_at m (function_place m x)) e
+is_init_callee m (IntValue n) e = let f : ⊥ = cc in absurd f
+is_init_callee m Null e = let f : ⊥ = cc in absurd f
+is_init_callee m (Register x) e = let f : ⊥ = cc in absurd f
 
 asks : (flag : Bool) (x : Name) (k : Kind) → is_init_kind flag k ≡ true → (m : Module) (t : ThreadState) (f : Frame) (rest : List Frame) → next_kind m t f rest (Some x) k ≡ Local (goes_on t f rest (Some x) (Int t.answers.init))
 asks flag x (Call Absent ret callee operands) e m t f rest =
     let p = and_parts (is_int_of 32 ret && is_function target_init callee) (is_init_operands flag operands) e in
     let q = and_parts (is_int_of 32 ret) (is_function target_init callee) p.0 in
-    ap (next_call t f rest (Some x)) (is_init_callee callee q.1)
+    ap (next_call m t f rest (Some x) operands) (is_init_callee m callee q.1)
 asks flag x _ e m t f rest = let g : ⊥ = cc in absurd g
 
 not_same : (n k : ℕ) → n ≢ k → (n == k) ≡ false
@@ -91,35 +92,36 @@ sides x a b false h e =
     inr (number_is minus_one a p.0, register_is x b p.1)
 
 abbrev compares : ThreadState → Frame → List Frame → Name → Result Word Trap → Result Word Trap → NextStep
-compares t f rest y a b = with_found a (λ v. with_found b (λ w. with_result (compared Eq v w) (λ n. Local (goes_on t f rest (Some y) (Int n)))))
+compares t f rest y a b = with_found a (λ v. with_found b (λ w. with_result (compared Eq 32 v w) (λ n. Local (goes_on t f rest (Some y) (Int n)))))
 
-tests_by : (x y : Name) (a b : Value) → ((a ≡ Register x) × (b ≡ IntValue minus_one)) ⊎ ((a ≡ IntValue minus_one) × (b ≡ Register x)) → (t : ThreadState) (f : Frame) (rest : List Frame) (n : ℕ) → n ≢ minus_one → f.code.registers x ≡ Some (Int n) →
-    compares t f rest y (value_word f.code.registers a) (value_word f.code.registers b) ≡ Local (goes_on t f rest (Some y) (Int 0))
-tests_by x y a b (inl p) t f rest n apart h =
-    ap (λ v. compares t f rest y (value_word f.code.registers v) (value_word f.code.registers b)) p.0
-    ∙ ap (λ v. compares t f rest y (register_word (f.code.registers x)) (value_word f.code.registers v)) p.1
+tests_by : (x y : Name) (a b : Value) → ((a ≡ Register x) × (b ≡ IntValue minus_one)) ⊎ ((a ≡ IntValue minus_one) × (b ≡ Register x)) → (m : Module) (t : ThreadState) (f : Frame) (rest : List Frame) (n : ℕ) → n ≢ minus_one → f.code.registers x ≡ Some (Int n) →
+    compares t f rest y (value_word m f.code.registers a) (value_word m f.code.registers b) ≡ Local (goes_on t f rest (Some y) (Int 0))
+tests_by x y a b (inl p) m t f rest n apart h =
+    ap (λ v. compares t f rest y (value_word m f.code.registers v) (value_word m f.code.registers b)) p.0
+    ∙ ap (λ v. compares t f rest y (register_word (f.code.registers x)) (value_word m f.code.registers v)) p.1
     ∙ ap (λ o. compares t f rest y (register_word o) (Ok (Int minus_one))) h
     ∙ ap (λ e. Local (goes_on t f rest (Some y) (Int (truth e)))) (not_same n minus_one apart)
-tests_by x y a b (inr p) t f rest n apart h =
-    ap (λ v. compares t f rest y (value_word f.code.registers v) (value_word f.code.registers b)) p.0
-    ∙ ap (λ v. compares t f rest y (Ok (Int minus_one)) (value_word f.code.registers v)) p.1
+tests_by x y a b (inr p) m t f rest n apart h =
+    ap (λ v. compares t f rest y (value_word m f.code.registers v) (value_word m f.code.registers b)) p.0
+    ∙ ap (λ v. compares t f rest y (Ok (Int minus_one)) (value_word m f.code.registers v)) p.1
     ∙ ap (λ o. compares t f rest y (Ok (Int minus_one)) (register_word o)) h
     ∙ ap (λ e. Local (goes_on t f rest (Some y) (Int (truth e)))) (not_same minus_one n (λ e. apart (sym e)))
 
 tests : (x y : Name) (k : Kind) → is_test_kind x k ≡ true → (m : Module) (t : ThreadState) (f : Frame) (rest : List Frame) (n : ℕ) → n ≢ minus_one → f.code.registers x ≡ Some (Int n) → next_kind m t f rest (Some y) k ≡ Local (goes_on t f rest (Some y) (Int 0))
 tests x y (ICmp Eq ty a b) e m t f rest n apart h =
     let p = and_parts (is_int_of 32 ty) (are_compared x a b) e in
-    tests_by x y a b (sides x a b (is_register x a) refl p.1) t f rest n apart h
+    tests_by x y a b (sides x a b (is_register x a) refl p.1) m t f rest n apart h
 tests x y _ e m t f rest n apart h = let g : ⊥ = cc in absurd g
 
-branches : (y user exit : Name) (x : Option Name) (k : Kind) → is_branch_kind y user exit k ≡ true → (m : Module) (t : ThreadState) (f : Frame) (rest : List Frame) → f.code.registers y ≡ Some (Int 0) → next_kind m t f rest x k ≡ to_block t f rest (place_in (labels m f.code.at.function) exit)
+branches : (y user exit : Name) (x : Option Name) (k : Kind) → is_branch_kind y user exit k ≡ true → (m : Module) (t : ThreadState) (f : Frame) (rest : List Frame) → f.code.registers y ≡ Some (Int 0) → next_kind m t f rest x k ≡ to_label m t f rest exit
 branches y user exit x (CondBr c then_to else_to) e m t f rest h =
     let p = and_parts (is_int_of 1 c.ty && is_register y c.value && bytes_eq then_to user) (bytes_eq else_to exit) e in
     let q = and_parts (is_int_of 1 c.ty && is_register y c.value) (bytes_eq then_to user) p.0 in
     let r = and_parts (is_int_of 1 c.ty) (is_register y c.value) q.0 in
-    ap (λ v. with_found (value_word f.code.registers v) (λ w. with_number w (λ n. to_block t f rest (place_in (labels m f.code.at.function) (if n == 0 then else_to else then_to))))) (register_is y c.value r.1)
-    ∙ ap (λ o. with_found (register_word o) (λ w. with_number w (λ n. to_block t f rest (place_in (labels m f.code.at.function) (if n == 0 then else_to else then_to))))) h
-    ∙ ap (λ z. to_block t f rest (place_in (labels m f.code.at.function) z)) ((bytes_eq-Decides else_to exit).0 p.1)
+    ap (λ v. goes_by (value_word m f.code.registers v)) (register_is y c.value r.1) ∙ ap (λ o. goes_by (register_word o)) h ∙ ap (to_label m t f rest) ((bytes_eq-Decides else_to exit).0 p.1)
+  where
+    goes_by : Result Word Trap → NextStep
+    goes_by found = with_found found (λ w. with_number w (λ n. to_label m t f rest (if n == 0 then else_to else then_to)))
 branches y user exit x _ e m t f rest h = let g : ⊥ = cc in absurd g
 
 returns : (x : Option Name) (k : Kind) → is_return_kind k ≡ true → (m : Module) (t : ThreadState) (f : Frame) → next_kind m t f [] x k ≡ Pending Leaves
@@ -193,6 +195,15 @@ exit_returns (a ∷ []) e = returns a.result a.kind (and_parts (FirstForm.no_res
 exit_returns [] e = let f : ⊥ = cc in absurd f
 exit_returns (a ∷ b ∷ more) e = let f : ⊥ = cc in absurd f
 
+is_no_phi : (x : Option Name) (k : Kind) (phis : List PhiNode) → is_return_kind k ≡ true → with_phi x k phis ≡ []
+is_no_phi x (Ret None) phis e = refl
+is_no_phi x _ phis e = let f : ⊥ = cc in absurd f
+
+exit_begins : (is : List Inst) → is_exit is ≡ true → leading_phis is ≡ []
+exit_begins (a ∷ []) e = is_no_phi a.result a.kind [] (and_parts (FirstForm.no_result a.result) (is_return_kind a.kind) e).1
+exit_begins [] e = let f : ⊥ = cc in absurd f
+exit_begins (a ∷ b ∷ more) e = let f : ⊥ = cc in absurd f
+
 -- ---- the names of the blocks
 
 apart_behind : (xs ys : List (List ℕ × Ty)) → all_apart (map name_of (xs ++ ys)) ≡ true → all_apart (map name_of ys) ≡ true
@@ -226,6 +237,7 @@ pub record KernelShape (bs : List Block) : Type 0 where
   pub tests : Tests (inst_in (slice_get bs 0) 1) x y
   pub branches : Branches (inst_in (slice_get bs 0) 2) y exit
   pub exit_place : place_in (map block_name bs) exit ≡ Some 2
+  pub no_phis : phis_in (slice_get bs 2) ≡ []
   pub returns : Returns (inst_in (slice_get bs 2) 0)
   pub generic : is_spmd_mode (flat_map block_modes bs) ≡ false
 
@@ -242,6 +254,7 @@ blocks_shape flag (a ∷ b ∷ c ∷ []) e apart =
       tests = s.tests;
       branches = s.branches;
       exit_place = third_place a.name b.name c.name apart;
+      no_phis = exit_begins c.insts p.1;
       returns = exit_returns c.insts p.1;
       generic = s.generic (flat_map block_modes (b ∷ c ∷ []));
     }

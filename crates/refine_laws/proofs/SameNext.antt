@@ -1,22 +1,37 @@
 -- The module with its machine off has the same next step at every thread state.
-use Rattle.std.proofs.Common.{◌≡◌, ℕ, List, [], ◌∷◌, ◌++◌, Bool, true, false, Option, Some, None, refl, ap, ◌∙◌, map}
-use Rattle.std.specs.Prelude.{slice_get, option_map, ◌==◌, if◌then◌else◌}
+use Rattle.std.proofs.Common.{◌≡◌, ℕ, ◌+◌, List, [], ◌∷◌, ◌++◌, Bool, true, false, Option, Some, None, Ok, refl, ap, ◌∙◌, length, map}
+use Rattle.std.specs.Prelude.{slice_get, option_map, if◌then◌else◌}
 use Rattle.std.specs.List.{flat_map}
+use Rattle.std.specs.Str.{bytes_eq}
 use Rattle.std.proofs.lemmas.Option.{slice_get-map}
+use Rattle.ir_core.specs.declared.types.Ty.{Ty}
 use Rattle.ir_core.specs.declared.module.Module.{Module}
+use Rattle.ir_core.specs.declared.module.Global.{Global}
+use Rattle.ir_core.specs.declared.module.Init.{Init, fold-Init}
+use Rattle.ir_core.specs.declared.module.Init.TheOpen.{Init-F}
+use Rattle.ir_core.specs.Layout.{Size}
 use Rattle.ir_core.specs.declared.module.Function.{Function}
 use Rattle.ir_core.specs.declared.module.Block.{Block}
 use Rattle.ir_core.specs.declared.instructions.Inst.{Inst}
+use Rattle.ir_core.specs.declared.module.Param.{Param}
+use Rattle.ir_core.specs.declared.instructions.Value.{Value}
+use Rattle.ir_core.specs.declared.instructions.Value.TheVariants.{Int as IntValue, Null, Local as Register, Global as GlobalValue}
 use Rattle.ir_core.specs.declared.instructions.Typed.{Typed}
 use Rattle.ir_core.specs.declared.instructions.Kind.{Kind}
-use Rattle.ir_core.specs.declared.instructions.Kind.TheVariants.{Call, Br, CondBr, Ret}
+use Rattle.ir_core.specs.declared.instructions.Kind.TheVariants.{Phi, Alloca, Gep, Fence, Call, Br, CondBr, Switch, Ret, Unreachable}
+use Rattle.ir_core.specs.EntryPoints.{target_init, target_deinit}
 use Rattle.ir_core.specs.MachineOff.{calls_init, operands_off, kind_off, inst_off, block_off, function_off, machine_off}
 use Rattle.mem_model.specs.declared.launch.Launch.{Launch}
+use Rattle.mem_model.specs.declared.memory.BlockName.TheVariants.{Global as GlobalBlock}
+use Rattle.mem_model.specs.declared.memory.Byte.{Byte}
 use Rattle.mem_model.specs.declared.memory.Word.{Word}
-use Rattle.mem_model.specs.Thread.{Name, Place, Answers, Frame, ThreadState}
-use Rattle.mem_model.specs.Code.{block_in, inst_in, inst_at, block_name, labels_of, labels, function_name, function_place, place_in}
-use Rattle.mem_model.specs.Next.{with_found, with_number, value_word, to_block, goes_on, next_kind, next_inst, next_frames, Next, result_of, resumed_frames, resumed, line_of, frames_line, line_at}
-use Rattle.mem_model.specs.Launching.{params_of, registers_from, first_registers, thread_at, first_thread}
+use Rattle.mem_model.specs.Memory.{Memory, no_blocks, with_block}
+use Rattle.mem_model.specs.Thread.{Name, Place, Registers, Answers, Frame, ThreadState, assigned, bound}
+use Rattle.ir_core.specs.Places.{block_in, inst_in, inst_at, block_name, labels_of, labels, function_name, function_place, global_place, place_in, PhiNode, with_phi, leading_phis, phis_in, phis_at, edge_from, name_in, label_at}
+use Rattle.mem_model.specs.Values.{address_of, value_word, and_then, operand_words, index_of, path_of}
+use Rattle.mem_model.specs.Next.{NextStep, Local, with_found, with_frames, goes_on, phi_word, with_phis, enters, to_block, to_label, CallsInit, CallsDeinit, CallsFunction, CallsOther, Callee, with_body, defined_as, defined_at, callee_of, called, next_call, next_kind, next_inst, next_frames, Next, result_of, resumed_frames, resumed, line_of, frames_line, line_at}
+use Rattle.mem_model.specs.Globals.{padded, Filled, found_bytes, init_layer, element_layer, contents, with_globals}
+use Rattle.mem_model.specs.Launching.{params_of, arg_words, first_registers, thread_at, first_thread, with_buffers, first_memory}
 use Rattle.team_model.specs.Team.{mode_operand, kind_modes, inst_modes, block_modes, is_spmd_mode, is_spmd_function, function_at, is_spmd}
 
 -- ---- look-ups
@@ -40,11 +55,11 @@ inst_in_off : (o : Option Block) (i : ℕ) → inst_in (option_map block_off o) 
 inst_in_off None i = refl
 inst_in_off (Some b) i = slice_get-map inst_off b.insts i
 
+block_at_off : (m : Module) (f b : ℕ) → block_in (slice_get (machine_off m).functions f) b ≡ option_map block_off (block_in (slice_get m.functions f) b)
+block_at_off m f b = ap (λ o. block_in o b) (slice_get-map function_off m.functions f) ∙ block_in_off (slice_get m.functions f) b
+
 pub inst_at_off : (m : Module) (p : Place) → inst_at (machine_off m) p ≡ option_map inst_off (inst_at m p)
-inst_at_off m p =
-    ap (λ o. inst_in (block_in o p.block) p.index) (slice_get-map function_off m.functions p.function)
-    ∙ ap (λ o. inst_in o p.index) (block_in_off (slice_get m.functions p.function) p.block)
-    ∙ inst_in_off (block_in (slice_get m.functions p.function) p.block) p.index
+inst_at_off m p = ap (λ o. inst_in o p.index) (block_at_off m p.function p.block) ∙ inst_in_off (block_in (slice_get m.functions p.function) p.block) p.index
 
 function_names_same : (fs : List Function) → map function_name (map function_off fs) ≡ map function_name fs
 function_names_same [] = refl
@@ -53,16 +68,119 @@ function_names_same (f ∷ fs) = ap (λ ns. function_name f ∷ ns) (function_na
 pub function_place_same : (m : Module) (x : Name) → function_place (machine_off m) x ≡ function_place m x
 function_place_same m x = ap (λ ns. place_in ns x) (function_names_same m.functions)
 
+name_in_same : (o : Option Block) → name_in (option_map block_off o) ≡ name_in o
+name_in_same None = refl
+name_in_same (Some b) = refl
+
+label_at_same : (m : Module) (p : Place) → label_at (machine_off m) p ≡ label_at m p
+label_at_same m p = ap name_in (block_at_off m p.function p.block) ∙ name_in_same (block_in (slice_get m.functions p.function) p.block)
+
+with_phi_same : (x : Option Name) (k : Kind) (phis : List PhiNode) → with_phi x (kind_off k) phis ≡ with_phi x k phis
+with_phi_same x (Call tail_word ret callee operands) phis = refl
+with_phi_same x _ phis = refl
+
+leading_phis_same : (is : List Inst) → leading_phis (map inst_off is) ≡ leading_phis is
+leading_phis_same [] = refl
+leading_phis_same (i ∷ is) = ap (with_phi i.result (kind_off i.kind)) (leading_phis_same is) ∙ with_phi_same i.result i.kind (leading_phis is)
+
+phis_in_same : (o : Option Block) → phis_in (option_map block_off o) ≡ phis_in o
+phis_in_same None = refl
+phis_in_same (Some b) = leading_phis_same b.insts
+
+phis_at_same : (m : Module) (f b : ℕ) → phis_at (machine_off m) f b ≡ phis_at m f b
+phis_at_same m f b = ap phis_in (block_at_off m f b) ∙ phis_in_same (block_in (slice_get m.functions f) b)
+
+-- ---- operands
+
+value_same : (m : Module) (r : Registers) (v : Value) → value_word (machine_off m) r v ≡ value_word m r v
+value_same m r (IntValue n) = refl
+value_same m r Null = refl
+value_same m r (Register x) = refl
+value_same m r (GlobalValue x) = ap (address_of (global_place m x)) (function_place_same m x)
+
+words_same : (m : Module) (r : Registers) (vs : List Typed) → operand_words (machine_off m) r vs ≡ operand_words m r vs
+words_same m r [] = refl
+words_same m r (v ∷ vs) = λ i. and_then (value_same m r v.value i) (λ word. and_then (words_same m r vs i) (λ words. Ok (word ∷ words)))
+
+path_same : (m : Module) (r : Registers) (vs : List Typed) → path_of (machine_off m) r vs ≡ path_of m r vs
+path_same m r [] = refl
+path_same m r (v ∷ vs) = λ i. and_then (value_same m r v.value i) (λ word. and_then (index_of v.ty word) (λ n. and_then (path_same m r vs i) (λ path. Ok (n ∷ path))))
+
+-- ---- branches
+
+phi_word_same : (m : Module) (r : Registers) (o : Option Value) → phi_word (machine_off m) r o ≡ phi_word m r o
+phi_word_same m r None = refl
+phi_word_same m r (Some v) = value_same m r v
+
+with_phis_same : (m : Module) (before : Registers) (from : Name) (ps : List PhiNode) (r : Registers) → with_phis (machine_off m) before from ps r ≡ with_phis m before from ps r
+with_phis_same m before from [] r = refl
+with_phis_same m before from (p ∷ ps) r = λ i. and_then (phi_word_same m before (edge_from p.edges from) i) (λ word. with_phis_same m before from ps (assigned r p.result word) i)
+
+abbrev phi_place : Frame → ℕ → List PhiNode → Place
+phi_place f b phis = record { function = f.code.at.function; block = b; index = length phis }
+
+abbrev enters_with : Module → ThreadState → Frame → List Frame → ℕ → Name → List PhiNode → NextStep
+enters_with m t f rest b from phis = with_found (with_phis m f.code.registers from phis f.code.registers) (enters t f rest (phi_place f b phis))
+
+to_block_same : (m : Module) (t : ThreadState) (f : Frame) (rest : List Frame) (o : Option ℕ) → to_block (machine_off m) t f rest o ≡ to_block m t f rest o
+to_block_same m t f rest None = refl
+to_block_same m t f rest (Some b) =
+    (λ i. enters_with (machine_off m) t f rest b (label_at_same m f.code.at i) (phis_at_same m f.code.at.function b i))
+    ∙ (λ i. with_found (with_phis_same m f.code.registers (label_at m f.code.at) (phis_at m f.code.at.function b) f.code.registers i) (enters t f rest (phi_place f b (phis_at m f.code.at.function b))))
+
+to_label_same : (m : Module) (t : ThreadState) (f : Frame) (rest : List Frame) (x : Name) → to_label (machine_off m) t f rest x ≡ to_label m t f rest x
+to_label_same m t f rest x = ap (λ ls. to_block (machine_off m) t f rest (place_in ls x)) (labels_same m f.code.at.function) ∙ to_block_same m t f rest (place_in (labels m f.code.at.function) x)
+
+-- ---- calls
+
+with_body_same : (k : ℕ) (ps : List Param) (bs : List Block) → with_body k ps (map block_off bs) ≡ with_body k ps bs
+with_body_same k ps [] = refl
+with_body_same k ps (b ∷ bs) = refl
+
+defined_as_same : (k : ℕ) (o : Option Function) → defined_as k (option_map function_off o) ≡ defined_as k o
+defined_as_same k None = refl
+defined_as_same k (Some f) = with_body_same k f.params f.blocks
+
+defined_at_same : (m : Module) (o : Option ℕ) → defined_at (machine_off m) o ≡ defined_at m o
+defined_at_same m None = refl
+defined_at_same m (Some k) = ap (defined_as k) (slice_get-map function_off m.functions k) ∙ defined_as_same k (slice_get m.functions k)
+
+next_call_same : (m : Module) (t : ThreadState) (f : Frame) (rest : List Frame) (x : Option Name) (operands : List Typed) (c : Callee) → next_call (machine_off m) t f rest x operands c ≡ next_call m t f rest x operands c
+next_call_same m t f rest x operands CallsInit = refl
+next_call_same m t f rest x operands CallsDeinit = refl
+next_call_same m t f rest x operands (CallsFunction k ps) = ap (λ found. with_found found (λ words. Local (with_frames t (called k ps words x ∷ f ∷ rest)))) (words_same m f.code.registers operands)
+next_call_same m t f rest x operands CallsOther = refl
+
+-- an init call reads no operand
+either_call_same : (m : Module) (t : ThreadState) (f : Frame) (rest : List Frame) (x : Option Name) (operands : List Typed) (init : Bool) (c : Callee) →
+    next_call (machine_off m) t f rest x (if init then operands_off operands else operands) (if init then CallsInit else c) ≡ next_call m t f rest x operands (if init then CallsInit else c)
+either_call_same m t f rest x operands true c = refl
+either_call_same m t f rest x operands false c = next_call_same m t f rest x operands c
+
+call_same : (m : Module) (t : ThreadState) (f : Frame) (rest : List Frame) (x : Option Name) (operands : List Typed) (v : Value) →
+    next_call (machine_off m) t f rest x (if calls_init v then operands_off operands else operands) (callee_of (machine_off m) v) ≡ next_call m t f rest x operands (callee_of m v)
+call_same m t f rest x operands (GlobalValue y) =
+    (λ i. next_call (machine_off m) t f rest x (if bytes_eq y target_init then operands_off operands else operands) (if bytes_eq y target_init then CallsInit else if bytes_eq y target_deinit then CallsDeinit else defined_here i))
+    ∙ either_call_same m t f rest x operands (bytes_eq y target_init) (if bytes_eq y target_deinit then CallsDeinit else defined_at m (function_place m y))
+  where
+    defined_here : defined_at (machine_off m) (function_place (machine_off m) y) ≡ defined_at m (function_place m y)
+    defined_here = ap (defined_at (machine_off m)) (function_place_same m y) ∙ defined_at_same m (function_place m y)
+call_same m t f rest x operands _ = refl
+
 -- ---- steps
 
 kind_same : (m : Module) (t : ThreadState) (f : Frame) (rest : List Frame) (x : Option Name) (k : Kind) → next_kind (machine_off m) t f rest x (kind_off k) ≡ next_kind m t f rest x k
-kind_same m t f rest x (Call tail_word ret callee operands) = refl
-kind_same m t f rest x (Br to) = ap (λ ls. to_block t f rest (place_in ls to)) (labels_same m f.code.at.function)
-kind_same m t f rest x (CondBr c then_to else_to) =
-    ap (λ ls. with_found (value_word f.code.registers c.value) (λ v. with_number v (λ n. to_block t f rest (place_in ls (if n == 0 then else_to else then_to))))) (labels_same m f.code.at.function)
+kind_same m t f rest x (Call tail_word ret callee operands) = call_same m t f rest x operands callee
+kind_same m t f rest x (Phi ty edges) = refl
+kind_same m t f rest x (Alloca ty align) = refl
+kind_same m t f rest x (Fence order) = refl
 kind_same m t f rest x (Ret None) = refl
-kind_same m t f rest x (Ret (Some v)) = refl
-kind_same m t f rest x _ = refl
+kind_same m t f rest x Unreachable = refl
+kind_same m t f rest x (Br to) = to_label_same m t f rest to
+kind_same m t f rest x (CondBr c then_to else_to) = simp (value_same m, to_label_same m) refl
+kind_same m t f rest x (Switch on other cases) = simp (value_same m, to_label_same m) refl
+kind_same m t f rest x (Gep inbounds ty base path) = simp (value_same m, path_same m) refl
+kind_same m t f rest x _ = simp (value_same m) refl
 
 inst_same : (m : Module) (t : ThreadState) (f : Frame) (rest : List Frame) (o : Option Inst) → next_inst (machine_off m) t f rest (option_map inst_off o) ≡ next_inst m t f rest o
 inst_same m t f rest None = refl
@@ -104,12 +222,34 @@ line_at_same m t = frames_line_same m t.frames
 
 -- ---- the start
 
+init_layer_same : (m : Module) (i : Init-F (Ty → List Byte) Filled) (ty : Ty) → init_layer (machine_off m) i ty ≡ init_layer m i ty
+init_layer_same m Init-F.Zero ty = refl
+init_layer_same m (Init-F.Int n) ty = refl
+init_layer_same m Init-F.Null ty = refl
+init_layer_same m (Init-F.Addr x) ty = ap (λ o. found_bytes (address_of (global_place m x) o)) (function_place_same m x)
+init_layer_same m (Init-F.Bytes bytes) ty = refl
+init_layer_same m (Init-F.Square elements) ty = refl
+init_layer_same m (Init-F.Braces elements) ty = refl
+
+contents_same : (m : Module) (ty : Ty) (init : Option Init) → contents (machine_off m) ty init ≡ contents m ty init
+contents_same m ty None = refl
+contents_same m ty (Some init) = λ k. padded (Size m.types ty) (fold-Init (Ty → List Byte) Filled (λ i ty. init_layer_same m i ty k) (element_layer m) init ty)
+
+with_globals_same : (m : Module) (i : ℕ) (gs : List Global) (memory : Memory) → with_globals (machine_off m) i gs memory ≡ with_globals m i gs memory
+with_globals_same m i [] memory = refl
+with_globals_same m i (g ∷ gs) memory =
+    ap (λ bytes. with_globals (machine_off m) (i + 1) gs (with_block memory (GlobalBlock i) g.constant bytes)) (contents_same m g.ty g.init)
+    ∙ with_globals_same m (i + 1) gs (with_block memory (GlobalBlock i) g.constant (contents m g.ty g.init))
+
+pub first_memory_same : (m : Module) (l : Launch) → first_memory (machine_off m) l ≡ first_memory m l
+first_memory_same m l = with_globals_same m 0 m.globals (with_buffers 0 l.args no_blocks)
+
 params_same : (o : Option Function) → params_of (option_map function_off o) ≡ params_of o
 params_same None = refl
 params_same (Some f) = refl
 
 first_registers_same : (m : Module) (k : ℕ) (l : Launch) → first_registers (machine_off m) k l ≡ first_registers m k l
-first_registers_same m k l = ap (λ ps. registers_from 0 ps l.args) (ap params_of (slice_get-map function_off m.functions k) ∙ params_same (slice_get m.functions k))
+first_registers_same m k l = ap (λ ps. bound ps (arg_words 0 l.args)) (ap params_of (slice_get-map function_off m.functions k) ∙ params_same (slice_get m.functions k))
 
 thread_at_same : (m : Module) (l : Launch) (own : ℕ) (answers : Answers) (o : Option ℕ) → thread_at (machine_off m) l own answers o ≡ thread_at m l own answers o
 thread_at_same m l own answers None = refl

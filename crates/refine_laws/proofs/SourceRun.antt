@@ -29,4 +29,4 @@ source_comes : (m : Memory) → HasBuffer m → Comes (SourceStep (example true)
 source_comes m e = (Main ∷ Main ∷ Main ∷ Main ∷ Main ∷ Main ∷ [], last m (with_seven m), refl, ap (from_store m) (goes m e), refl, ap outcome_with (shows m e))
 
 pub source_ends : SourceSystem (example true) launch 0 6 Ended result_of_run
-source_ends = source_comes (first_memory launch) first_has
+source_ends = source_comes (first_memory (example true) launch) (first_has true)

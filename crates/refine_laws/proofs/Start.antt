@@ -7,22 +7,24 @@ use Rattle.std.specs.List.{list_all}
 use Rattle.std.proofs.lemmas.Option.{slice_get-map}
 use Rattle.ir_core.specs.declared.module.Module.{Module}
 use Rattle.ir_core.specs.declared.module.Function.{Function}
+use Rattle.ir_core.specs.declared.module.Global.{Global}
 use Rattle.ir_core.specs.MachineOff.{machine_off}
 use Rattle.mem_model.specs.declared.launch.Launch.{Launch}
 use Rattle.mem_model.specs.declared.launch.Arg.{Arg}
 use Rattle.mem_model.specs.declared.launch.Arg.TheVariants.{Buffer, Int as IntArg, Null}
-use Rattle.mem_model.specs.declared.memory.BlockName.TheVariants.{Arg as ArgBlock, Captures}
+use Rattle.mem_model.specs.declared.memory.BlockName.TheVariants.{Arg as ArgBlock, Global as GlobalBlock, Captures}
 use Rattle.mem_model.specs.declared.memory.Byte.TheVariants.{Num}
 use Rattle.mem_model.specs.Blocks.{block_cmp}
 use Rattle.mem_model.specs.Memory.{Memory, no_blocks}
 use Rattle.mem_model.specs.Thread.{Answers, ThreadState}
-use Rattle.mem_model.specs.Code.{function_place}
-use Rattle.mem_model.specs.Launching.{thread_at, first_thread, with_buffer, with_buffers, first_memory}
+use Rattle.ir_core.specs.Places.{function_place}
+use Rattle.mem_model.specs.Globals.{contents, with_globals}
+use Rattle.mem_model.specs.Launching.{thread_at, first_thread, with_buffer, with_buffers, first_memory, first_common}
 use Rattle.mem_model.proofs.Orders.{block_total}
 use Rattle.mem_model.proofs.Runs.{none_is_not_some, some_injective}
 use Rattle.source_model.specs.Source.{source_start}
-use Rattle.team_model.specs.Team.{Team, is_spmd_function, function_at, is_spmd, worker_answers, main_answers, threads_from, first_threads, runs_at_first, started, team_start}
-use Rattle.refine_laws.proofs.SameNext.{first_thread_same, spmd_same}
+use Rattle.team_model.specs.Team.{Team, is_spmd_function, function_at, is_spmd, worker_answers, main_answers, threads_from, first_threads, with_captures, runs_at_first, started, team_start}
+use Rattle.refine_laws.proofs.SameNext.{first_memory_same, first_thread_same, spmd_same}
 use Rattle.refine_laws.proofs.AlikeMemory.{captures_alike}
 use Rattle.refine_laws.proofs.ListPlaces.{total_of}
 use Rattle.refine_laws.proofs.KernelShape.{KernelShape}
@@ -43,8 +45,13 @@ buffers_lack : (i : ℕ) (args : List Arg) (m : Memory) → Lacks m → Lacks (w
 buffers_lack i [] m h = h
 buffers_lack i (a ∷ args) m h = buffers_lack (i + 1) args (with_buffer i a m) (buffer_lacks i a m h)
 
-pub first_lacks : (l : Launch) → fin.get (first_memory l).blocks Captures ≡ None
-first_lacks l = buffers_lack 0 l.args no_blocks (get-empty block_cmp Captures)
+globals_lack : (source : Module) (i : ℕ) (gs : List Global) (m : Memory) → Lacks m → Lacks (with_globals source i gs m)
+globals_lack source i [] m h = h
+globals_lack source i (g ∷ gs) m h =
+    globals_lack source (i + 1) gs _ (get-insert block_total m.blocks (GlobalBlock i) (record { size = length (contents source g.ty g.init); constant = g.constant; released = false }) Captures ∙ h)
+
+pub first_lacks : (m : Module) (l : Launch) → Lacks (first_memory m l)
+first_lacks m l = globals_lack m 0 m.globals (with_buffers 0 l.args no_blocks) (buffers_lack 0 l.args no_blocks (get-empty block_cmp Captures))
 
 -- ---- no worker has made a step
 
@@ -78,13 +85,20 @@ threads_same : (m : Module) (l : Launch) (answers : ℕ → Answers) (t n : ℕ)
 threads_same m l answers t zero = refl
 threads_same m l answers t (suc n) = λ i. first_thread_same m l t (answers t) i ∷ threads_same m l answers (t + 1) n i
 
+abbrev started_with : Memory → List ThreadState → Team
+started_with memory threads = record {
+  shared = record { common = first_common (with_captures memory); heaps = 0; stands = map runs_at_first threads; slot = None; trapped = None };
+  threads = threads;
+}
+
 abbrev pub generic_start : Module → Launch → Team
-generic_start m l = started l (first_threads m l false)
+generic_start m l = started m l (first_threads m l false)
 
 start_is : (m : Module) (l : Launch) → is_spmd m l ≡ false → team_start (machine_off m) l ≡ generic_start m l
 start_is m l generic =
-    ap (λ spmd. started l (first_threads (machine_off m) l spmd)) (spmd_same m l ∙ generic)
-    ∙ (λ i. started l (threads_same m l (worker_answers l) 0 l.threads i ++ first_thread_same m l l.threads main_answers i ∷ []))
+    ap (λ spmd. started (machine_off m) l (first_threads (machine_off m) l spmd)) (spmd_same m l ∙ generic)
+    ∙ ap (started (machine_off m) l) (λ i. threads_same m l (worker_answers l) 0 l.threads i ++ first_thread_same m l l.threads main_answers i ∷ [])
+    ∙ ap (λ memory. started_with memory (first_threads m l false)) (first_memory_same m l)
 
 -- ---- the threads of the team at the start
 
@@ -121,7 +135,7 @@ module _ (m : Module) (l : Launch) (k : ℕ) (g : Function) (there : slice_get m
 
   tied_generic : Tied m l k g there sh (source_start m l 0) (generic_start m l) (4 * l.threads)
   tied_generic = record {
-    memory = captures_alike (first_memory l) false (replicate 512 (Num 0)) (first_lacks l);
+    memory = captures_alike (first_memory m l) false (replicate 512 (Num 0)) (first_lacks m l);
     prints = refl;
     main = main_is_last first_main l.threads 0;
     main_stand = slice_get-map runs_at_first first_team l.threads ∙ ap (option_map runs_at_first) (main_is_last first_main l.threads 0);

@@ -1,5 +1,5 @@
 -- The example's buffer before and behind its store, in any memory.
-use Rattle.std.proofs.Common.{◌≡◌, ℕ, pos, List, [], ◌∷◌, map, true, false, Option, Some, None, Result, Ok, ap, ◌∙◌}
+use Rattle.std.proofs.Common.{◌≡◌, ℕ, pos, List, [], ◌∷◌, map, Bool, true, false, Option, Some, None, Result, Ok, ap, ◌∙◌}
 use Rattle.std.specs.FinMap as fin
 use Rattle.std.specs.FinMap.{FinMap, get-insert}
 use Rattle.mem_model.specs.declared.memory.BlockName.TheVariants.{Arg, Captures}
@@ -14,7 +14,7 @@ use Rattle.mem_model.specs.Memory.{Memory, Header, Shares, access, header_size, 
 use Rattle.mem_model.specs.Launching.{Outcome, first_memory}
 use Rattle.mem_model.proofs.Orders.{block_total}
 use Rattle.mem_model.proofs.StoreLaws.{put_back}
-use Rattle.refine_laws.specs.Example.{launch}
+use Rattle.refine_laws.specs.Example.{example, launch}
 
 abbrev pub buffer : Header
 buffer = record { size = 4; constant = false; released = false }
@@ -49,8 +49,8 @@ is_there x h = get-insert block_total x (Arg 0) h (Arg 0)
 pub stays : (x : FinMap block_cmp Header) (h : Header) → fin.get (fin.insert x Captures h) (Arg 0) ≡ fin.get x (Arg 0)
 stays x h = get-insert block_total x Captures h (Arg 0)
 
-pub first_has : HasBuffer (first_memory launch)
-first_has = is_there fin.empty buffer
+pub first_has : (flag : Bool) → HasBuffer (first_memory (example flag) launch)
+first_has flag = is_there fin.empty buffer
 
 abbrev pub outcome_with : List (Option ℕ) → Outcome
 outcome_with bytes = record { prints = []; blocks = bytes ∷ [] }

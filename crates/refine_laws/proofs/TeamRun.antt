@@ -45,4 +45,4 @@ captures_keep : (m : Memory) (bytes : List Byte) → HasBuffer m → HasBuffer (
 captures_keep m bytes e = stays m.blocks (record { size = length bytes; constant = false; released = false }) ∙ e
 
 pub team_ends : TeamSystem (example true) (example false) launch 10 Ended result_of_run
-team_ends = team_comes (with_captures (first_memory launch)) (captures_keep (first_memory launch) (replicate 512 (Num 0)) first_has)
+team_ends = let memory = first_memory (example false) launch in team_comes (with_captures memory) (captures_keep memory (replicate 512 (Num 0)) (first_has false))

@@ -1,5 +1,5 @@
 -- What a worker does in a kernel whose machine is off: it asks, tests, branches and leaves.
-use Rattle.std.proofs.Common.{◌≡◌, ◌≢◌, ℕ, zero, suc, [], ◌∷◌, cond, Some, None, refl, ap, ◌∙◌}
+use Rattle.std.proofs.Common.{◌≡◌, ◌≢◌, ℕ, zero, suc, List, [], ◌∷◌, length, cond, Some, None, refl, ap, ◌∙◌}
 use Rattle.std.specs.Prelude.{slice_get}
 use Rattle.std.proofs.lemmas.Slice.Eq.{bytes_eq-Decides}
 use Rattle.ir_core.specs.declared.module.Module.{Module}
@@ -8,8 +8,8 @@ use Rattle.mem_model.specs.declared.launch.Launch.{Launch}
 use Rattle.mem_model.specs.declared.memory.Word.{Word}
 use Rattle.mem_model.specs.declared.memory.Word.TheVariants.{Int}
 use Rattle.mem_model.specs.Thread.{Name, Registers, Code, Frame, ThreadState, assigned}
-use Rattle.mem_model.specs.Code.{block_in, inst_in, labels_of, place_in}
-use Rattle.mem_model.specs.Next.{NextStep, Local, Pending, Leaves, to_block, next_inst, Next}
+use Rattle.ir_core.specs.Places.{block_in, inst_in, labels_of, place_in, PhiNode, phis_in, label_at}
+use Rattle.mem_model.specs.Next.{NextStep, Local, Pending, Leaves, with_found, with_phis, enters, to_block, next_inst, Next}
 use Rattle.mem_model.specs.Launching.{first_registers}
 use Rattle.team_model.specs.Team.{worker_answers}
 use Rattle.refine_laws.proofs.KernelShape.{KernelShape, minus_one}
@@ -44,6 +44,11 @@ module _ (m : Module) (l : Launch) (k : ℕ) (g : Function) (there : slice_get m
   worker_does n (suc (suc zero)) = Local (worker n 3)
   worker_does n (suc (suc (suc j))) = Pending Leaves
 
+  -- a worker with its last step before it, behind the phis of its block
+  abbrev arrives : ℕ → List PhiNode → NextStep
+  arrives n phis =
+      with_found (with_phis m (tested n) (label_at m (worker_code n 2).at) phis (tested n)) (enters (worker n 2) (worker_frame n 2) [] (record { function = k; block = 2; index = length phis }))
+
   pub worker_next : (n j : ℕ) → n ≢ minus_one → Next m (worker n j) ≡ worker_does n j
   worker_next n zero apart = ap (λ o. next_inst m (worker n 0) (worker_frame n 0) [] (inst_in (block_in o 0) 0)) there ∙ sh.asks m (worker n 0) (worker_frame n 0) []
   worker_next n (suc zero) apart =
@@ -52,7 +57,8 @@ module _ (m : Module) (l : Launch) (k : ℕ) (g : Function) (there : slice_get m
   worker_next n (suc (suc zero)) apart =
       ap (λ o. next_inst m (worker n 2) (worker_frame n 2) [] (inst_in (block_in o 0) 2)) there
       ∙ sh.branches m (worker n 2) (worker_frame n 2) [] (found (asked n) sh.y (Int 0))
-      ∙ ap (λ o. to_block (worker n 2) (worker_frame n 2) [] (place_in (labels_of o) sh.exit)) there
-      ∙ ap (to_block (worker n 2) (worker_frame n 2) []) sh.exit_place
+      ∙ ap (λ o. to_block m (worker n 2) (worker_frame n 2) [] (place_in (labels_of o) sh.exit)) there
+      ∙ ap (to_block m (worker n 2) (worker_frame n 2) []) sh.exit_place
+      ∙ ap (arrives n) (ap (λ o. phis_in (block_in o 2)) there ∙ sh.no_phis)
   worker_next n (suc (suc (suc j))) apart =
       ap (λ o. next_inst m (worker n (suc (suc (suc j)))) (worker_frame n 3) [] (inst_in (block_in o 2) 0)) there ∙ sh.returns m (worker n (suc (suc (suc j)))) (worker_frame n 3)

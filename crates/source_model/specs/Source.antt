@@ -37,7 +37,7 @@ main_answers bit = record { init = 2 ^ 32 - 1; number = 0; count = 1; level = 0;
 
 abbrev pub source_start : Module → Launch → ℕ → SourceState
 source_start m l bit = record {
-  common = first_common (first_memory l);
+  common = first_common (first_memory m l);
   heaps = 0;
   main = first_thread m l l.threads (main_answers bit);
   region = [];

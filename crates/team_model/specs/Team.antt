@@ -19,7 +19,7 @@ use Rattle.mem_model.specs.declared.step.End.TheVariants.{Running, Ended, Stuck,
 use Rattle.mem_model.specs.declared.step.Trap.{Trap}
 use Rattle.mem_model.specs.Memory.{Memory, with_block}
 use Rattle.mem_model.specs.Thread.{Answers, ThreadState}
-use Rattle.mem_model.specs.Code.{function_place}
+use Rattle.ir_core.specs.Places.{function_place}
 use Rattle.mem_model.specs.Next.{Event, Does, Deinit, Leaves, NextStep, Local, Pending, Done, Trapped, Next, resumed, line_at}
 use Rattle.mem_model.specs.Do.{Common, Effect, Do}
 use Rattle.mem_model.specs.Runs.{run, Comes}
@@ -107,14 +107,14 @@ first_threads m l false = threads_from m l (worker_answers l) 0 l.threads ++ fir
 abbrev pub runs_at_first : ThreadState → Stand
 runs_at_first t = Runs
 
-abbrev pub started : Launch → List ThreadState → Team
-started l threads = record {
-  shared = record { common = first_common (with_captures (first_memory l)); heaps = 0; stands = map runs_at_first threads; slot = None; trapped = None };
+abbrev pub started : Module → Launch → List ThreadState → Team
+started m l threads = record {
+  shared = record { common = first_common (with_captures (first_memory m l)); heaps = 0; stands = map runs_at_first threads; slot = None; trapped = None };
   threads = threads;
 }
 
 abbrev pub team_start : Module → Launch → Team
-team_start m l = started l (first_threads m l (is_spmd m l))
+team_start m l = started m l (first_threads m l (is_spmd m l))
 
 -- ---- one step of thread n, which changes the state of no other thread
 

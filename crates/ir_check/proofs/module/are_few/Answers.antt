@@ -1,9 +1,8 @@
-use Rattle.std.proofs.Common.{◌≡◌, ◌+◌, ◌<◌, ◌≤◌, take, drop, get_or, [], ◌∷◌, sum_by, length, sym, ap, ◌∙◌, arith, add-one}
+use Rattle.std.proofs.Common.{◌+◌, ◌<◌, ◌≤◌, take, get_or, [], ◌∷◌, sum_by, sym, ap, ◌∙◌, arith, add-one}
 use Rattle.std.proofs.lemmas.Bool.{le-leb, lt-leb}
 use Rattle.std.proofs.lemmas.List.Sums.{sum_by-take-drop, sum_by-append}
 use Rattle.std.proofs.Math.Seq.{take-suc}
 use Rattle.std.proofs.lemmas.List.{take_all}
-use Rattle.std.proofs.lemmas.Grind.{common_steps}
 use Rattle.ir_core.specs.FirstForm.{instruction_count, instruction_limit, block_length}
 use Rattle.ir_check.proofs.module.are_few.Goals as goal
 

@@ -1,4 +1,4 @@
-use Rattle.std.proofs.Common.{◌≡◌, ◌++◌, take, map}
+use Rattle.std.proofs.Common.{◌≡◌, ◌++◌, take}
 use Rattle.std.specs.List.{flat_map}
 use Rattle.ir_check.specs.Names.{block_entries, names_seen}
 use Rattle.ir_check.proofs.names.give_blocks.Given as goal

@@ -1,5 +1,4 @@
 use Rattle.std.proofs.Common.{◌≡◌, ◌++◌, take, map}
-use Rattle.std.specs.List.{flat_map}
 use Rattle.ir_check.specs.Names.{param_entry, names_seen}
 use Rattle.ir_check.proofs.names.give_params.Given as goal
 

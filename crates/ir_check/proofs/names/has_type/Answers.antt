@@ -1,4 +1,3 @@
-use Rattle.std.proofs.Common.{◌∙◌, ap, sym, subst}
 use Rattle.ir_check.proofs.Tables.{is_found, not_found}
 use Rattle.ir_check.proofs.names.has_type.Goals as goal
 

@@ -14,5 +14,5 @@ line_after-requires c =
 pub blanks-preserved : goal.blanks-preserved
 blanks-preserved c =
     let blank = c.is_blank_at.ensures.0 c.blanks-test.true in
-    let more = blank_gap c.args.text.now c.blanks.place c.line_after.result c.blanks.invariant.is_place blank c.line_after.ensures in
-    gap_then c.args.text.now c.args.start c.blanks.place (record { at = c.blanks.place.at + 1; line = c.line_after.result }) c.blanks.invariant more
+    let more = blank_gap c.args.text.now c.blanks.place c.line_after.result c.first_after.result c.blanks.invariant.is_place blank c.line_after.ensures c.first_after.ensures in
+    gap_then c.args.text.now c.args.start c.blanks.place (record { at = c.blanks.place.at + 1; line = c.line_after.result; depth = c.blanks.place.depth; first = c.first_after.result }) c.blanks.invariant more

@@ -1,0 +1,4 @@
+pub mod Laid
+pub mod Table
+pub mod Walk
+pub mod Laws

@@ -1,0 +1,20 @@
+//! Look-ups of named things, made once for a module. By now that is how its types lie in memory.
+//!
+//! `laid` reckons with layouts, `table` looks the named ones up, `order` says in which order they are laid out,
+//! and `types` keeps all of it for a module's types.
+#![tactic(auto)]
+
+mod laid;
+mod laws;
+mod offsets;
+mod order;
+mod table;
+#[cfg(test)]
+mod tests;
+mod types;
+
+pub use laws::{
+    array_of_structs, byte_and_word, contains_itself, field_of_third, first_item,
+    four_numbers_and_pointer, no_fields, no_such_field, one_back,
+};
+pub use types::{Types, offset_of, size_of};

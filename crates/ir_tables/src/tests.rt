@@ -1,0 +1,148 @@
+//! Sizes and offsets by hand, and many types.
+use crate::types::{Types, offset_of, size_of};
+use ir_core::{Boxed, List, Name, Ty, TypeDef};
+use std::alloc::{AllocError, Global};
+use std::test::Fail;
+
+/// A type without parts that have parts.
+#[derive(Clone, Copy)]
+enum Shape {
+    Int(u32),
+    Ptr,
+    /// So many integers of so many bits.
+    Array(u64, u32),
+    /// Two integers of so many bits, or one and a pointer.
+    Pair(u32, Option<u32>),
+    Named(&'static [u8]),
+}
+
+/// A type, its size, a path into it and the path's offset.
+type Case = (Shape, u64, &'static [i64], Option<i64>);
+
+const CASES: [Case; 12] = [
+    (Shape::Int(1), 1, &[3], Some(3)),
+    (Shape::Int(32), 4, &[-1], Some(-4)),
+    (Shape::Int(32), 4, &[0, 0], None),
+    (Shape::Ptr, 8, &[], Some(0)),
+    (Shape::Array(4, 16), 8, &[0, -1], Some(-2)),
+    (Shape::Array(0, 64), 0, &[9, 5], Some(40)),
+    (Shape::Array(1 << 61, 64), u64::MAX, &[1, 2], Some(16)),
+    (Shape::Pair(16, Some(8)), 4, &[2, 1], Some(10)),
+    (Shape::Pair(1, None), 16, &[0, 2], None),
+    (Shape::Pair(1, None), 16, &[0, -1], None),
+    (Shape::Named(b"row"), 48, &[1, 2, 1], Some(88)),
+    (Shape::Named(b"also"), 16, &[0, 1], Some(8)),
+];
+
+fn made(alloc: Global, shape: Shape) -> Result<Ty, AllocError> {
+    match shape {
+        Shape::Int(width) => Ok(Ty::Int(width)),
+        Shape::Ptr => Ok(Ty::Ptr),
+        Shape::Array(count, width) => array(alloc, count, Ty::Int(width)),
+        Shape::Pair(first, None) => pair(alloc, Ty::Int(first), Ty::Ptr),
+        Shape::Pair(first, Some(second)) => pair(alloc, Ty::Int(first), Ty::Int(second)),
+        Shape::Named(name) => named(alloc, name),
+    }
+}
+
+fn named(alloc: Global, name: &[u8]) -> Result<Ty, AllocError> {
+    Ok(Ty::Named(Name::from_slice(alloc, name)?))
+}
+
+fn array(alloc: Global, count: u64, item: Ty) -> Result<Ty, AllocError> {
+    Ok(Ty::Array(count, Boxed::new(alloc, item)?))
+}
+
+fn pair(alloc: Global, first: Ty, second: Ty) -> Result<Ty, AllocError> {
+    let mut fields = List::new(alloc);
+    fields.push(first)?;
+    fields.push(second)?;
+    Ok(Ty::Struct(fields))
+}
+
+fn add(alloc: Global, types: &mut List<TypeDef>, name: &[u8], body: Ty) -> Result<(), AllocError> {
+    types.push(TypeDef {
+        name: Name::from_slice(alloc, name)?,
+        body,
+        line: 1,
+    })
+}
+
+// `%row = type [3 x %also]`, `%also = type %pair`, `%pair = type { i8, i64 }`, and `%twice` as two types.
+fn some_types(alloc: Global) -> Result<List<TypeDef>, AllocError> {
+    let mut types = List::new(alloc);
+    add_row(alloc, &mut types)?;
+    add_pair(alloc, &mut types)?;
+    add_twice(alloc, &mut types)?;
+    Ok(types)
+}
+
+fn add_row(alloc: Global, types: &mut List<TypeDef>) -> Result<(), AllocError> {
+    let row = array(alloc, 3, named(alloc, b"also")?)?;
+    add(alloc, types, b"row", row)
+}
+
+fn add_pair(alloc: Global, types: &mut List<TypeDef>) -> Result<(), AllocError> {
+    add(alloc, types, b"also", named(alloc, b"pair")?)?;
+    add(
+        alloc,
+        types,
+        b"pair",
+        made(alloc, Shape::Pair(8, Some(64)))?,
+    )
+}
+
+fn add_twice(alloc: Global, types: &mut List<TypeDef>) -> Result<(), AllocError> {
+    add(alloc, types, b"twice", Ty::Int(8))?;
+    add(alloc, types, b"twice", Ty::Int(16))
+}
+
+#[test]
+fn sizes_and_offsets(rt: HostRuntime) -> Result<(), Fail> {
+    let alloc = rt.alloc();
+    let types = Types::of(alloc, some_types(alloc)?.as_slice())?;
+    for (shape, size, path, offset) in CASES {
+        let ty = made(alloc, shape)?;
+        assert_eq!(rt; size_of(&types, &ty), size);
+        assert_eq!(rt; offset_of(&types, &ty, path), offset);
+    }
+    Ok(())
+}
+
+// A type of this number is `{ T, T }`, where T is the type of the number below; that of 0 is `i64`.
+fn link(alloc: Global, number: u32) -> Result<Ty, AllocError> {
+    match number.checked_sub(1) {
+        None => Ok(Ty::Int(64)),
+        Some(part) => pair(alloc, numbered(alloc, part)?, numbered(alloc, part)?),
+    }
+}
+
+fn numbered(alloc: Global, number: u32) -> Result<Ty, AllocError> {
+    named(alloc, &number.to_be_bytes())
+}
+
+// The types of the numbers below `count`, from 0 on or from the last one down.
+fn chain(alloc: Global, count: u32, down: bool) -> Result<List<TypeDef>, AllocError> {
+    let mut types = List::new(alloc);
+    for step in 0..count {
+        let number = if down { count - 1 - step } else { step };
+        let body = link(alloc, number)?;
+        add(alloc, &mut types, &number.to_be_bytes(), body)?;
+    }
+    Ok(types)
+}
+
+#[test]
+fn long_chains(rt: HostRuntime) -> Result<(), Fail> {
+    let alloc = rt.alloc();
+    for down in [false, true] {
+        let types = Types::of(alloc, chain(alloc, 20_000, down)?.as_slice())?;
+        assert_eq!(rt; size_of(&types, &numbered(alloc, 40)?), 8 << 40);
+        assert_eq!(rt; size_of(&types, &numbered(alloc, 19_999)?), u64::MAX);
+        assert_eq!(rt;
+            offset_of(&types, &numbered(alloc, 60)?, &[0, 1, 1]),
+            Some(3 << 61)
+        );
+    }
+    Ok(())
+}

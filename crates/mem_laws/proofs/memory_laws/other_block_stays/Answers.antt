@@ -1,0 +1,5 @@
+use Rattle.mem_model.proofs.StoreLaws as laws
+use Rattle.mem_laws.proofs.memory_laws.other_block_stays.Goals as goal
+
+pub returns : goal.returns
+returns c = laws.other_block_stays

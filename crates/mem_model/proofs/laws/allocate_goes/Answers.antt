@@ -1,5 +1,0 @@
-use Rattle.mem_model.proofs.AccessTests as laws
-use Rattle.mem_model.proofs.laws.allocate_goes.Goals as goal
-
-pub returns : goal.returns
-returns c = laws.allocate_goes

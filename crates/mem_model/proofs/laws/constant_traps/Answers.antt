@@ -1,5 +1,0 @@
-use Rattle.mem_model.proofs.AccessTests as tests
-use Rattle.mem_model.proofs.laws.constant_traps.Goals as goal
-
-pub returns : goal.returns
-returns c = tests.constant_traps

@@ -1,5 +1,0 @@
-use Rattle.mem_model.proofs.AccessTests as tests
-use Rattle.mem_model.proofs.laws.leak_traps.Goals as goal
-
-pub returns : goal.returns
-returns c = tests.leak_traps

@@ -1,5 +1,0 @@
-use Rattle.mem_model.proofs.BlockLaws as laws
-use Rattle.mem_model.proofs.laws.new_block.Goals as goal
-
-pub returns : goal.returns
-returns c = laws.new_block

@@ -1,5 +1,0 @@
-use Rattle.mem_model.proofs.StoreLaws as laws
-use Rattle.mem_model.proofs.laws.other_bytes_stay.Goals as goal
-
-pub returns : goal.returns
-returns c = laws.other_bytes_stay

@@ -1,5 +1,0 @@
-use Rattle.mem_model.proofs.BlockLaws as laws
-use Rattle.mem_model.proofs.laws.release_then_traps.Goals as goal
-
-pub returns : goal.returns
-returns c = laws.release_then_traps

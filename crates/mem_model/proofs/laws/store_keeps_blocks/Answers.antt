@@ -1,5 +1,0 @@
-use Rattle.mem_model.proofs.StoreLaws as laws
-use Rattle.mem_model.proofs.laws.store_keeps_blocks.Goals as goal
-
-pub returns : goal.returns
-returns c = laws.store_keeps_blocks

@@ -1,5 +1,0 @@
-use Rattle.mem_model.proofs.StoreLaws as laws
-use Rattle.mem_model.proofs.laws.store_then_load.Goals as goal
-
-pub returns : goal.returns
-returns c = laws.store_then_load

@@ -1,5 +1,0 @@
-use Rattle.mem_model.proofs.PointerLaws as laws
-use Rattle.mem_model.proofs.laws.tells_pointers.Goals as goal
-
-pub returns : goal.returns
-returns c = laws.tells_pointers

@@ -1,5 +1,0 @@
-use Rattle.mem_model.proofs.WordLaws.{word_back}
-use Rattle.mem_model.proofs.laws.word_comes_back.Goals as goal
-
-pub returns : goal.returns
-returns c = word_back

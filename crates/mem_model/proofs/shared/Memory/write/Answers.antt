@@ -1,0 +1,31 @@
+use Rattle.std.proofs.Common.{Some, true, ap, sym, refl, subst, ◌∙◌, rules}
+use Rattle.std.specs.Int.{w64}
+use Rattle.std.specs.Int.RustNames.{FitsSigned}
+use Rattle.std.proofs.lemmas.Int.{to_z-of_z}
+use Rattle.mem_model.specs.declared.step.Trap.TheVariants.{NoBlock}
+use Rattle.mem_model.specs.Words.{cell_size}
+use Rattle.mem_model.specs.Memory.{access, Store}
+use Rattle.mem_model.specs.Thread.{given_of}
+use Rattle.mem_model.specs.Kept.{header_of, memory_of, IsWritten}
+use Rattle.mem_model.proofs.Changes.{Replaced}
+use Rattle.mem_model.proofs.Calls.{kept_store, store_none, done_along, refused}
+use Rattle.mem_model.proofs.shared.Memory.write.Goals as goal
+use Rattle.mem_model.proofs.shared.Memory.write.Goals.{in-Some, in-None}
+
+pub returns : goal.returns
+returns c =
+    elim c.match-get_mut.branch [
+      | in-Some w ↦
+          let es = c.self.inside.blocks.entries in
+          let new_es = (c.get_mut.follows.lender w.write.new.self).entries in
+          let r : Replaced es new_es c.in-At.name w.in-Some.block.now w.write.new.self = record { was = sym w.in-Some.ensures.value; finds = ((c.get_mut.follows.holds w.write.new.self).3 (search rules)).0 } in
+          let fits : FitsSigned w64 c.in-At.offset = search rules in
+          done_along (λ m p. Store m p c.args.cell (given_of c.args.word)) c.self.view_is (sym c.in-At.is) (sym (ap (λ m. memory_of m.blocks.entries) w.self-inside-is)) (sym w.result-is)
+          (kept_store es new_es c.in-At.name w.in-Some.block.now w.write.new.self r c.in-At.offset c.args.cell c.args.word w.write.result c.requires.word
+          (subst (λ z. IsWritten (access (Some (header_of w.in-Some.block.now)) z (cell_size c.args.cell) true) c.args.cell (given_of c.args.word) w.in-Some.block.now w.write.new.self w.write.result) (to_z-of_z w64 c.in-At.offset fits) w.write.ensures))
+      | in-None w ↦
+          let es = c.self.inside.blocks.entries in
+          let same = ap (λ m. memory_of m.blocks.entries) w.self-inside-is ∙ ap (λ m. memory_of m.entries) c.get_mut.follows.holds-at-none in
+          done_along (λ m p. Store m p c.args.cell (given_of c.args.word)) c.self.view_is (sym c.in-At.is) refl refl
+          (refused _ NoBlock (memory_of es) _ _ (store_none es c.in-At.name c.in-At.offset c.args.cell (given_of c.args.word) (sym w.in-None.ensures.value)) w.result-is same)
+    ]

@@ -1,0 +1,70 @@
+-- What the state of a thread in the code means: its registers by name, and its stack blocks with the calls that made them.
+use Rattle.std.specs.Prelude.{◌≡◌, ℕ, ◌+◌, ◌-◌, ◌<◌, ◌≤◌, List, [], ◌∷◌, length, map, reverse, take, drop, slice_get, Option, Some, None}
+use Rattle.ir_core.specs.declared.module.Module.{Module}
+use Rattle.ir_core.specs.Places.{Name, Place, place_in, register_names, inst_at}
+use Rattle.mem_model.specs.declared.memory.Byte.{Byte}
+use Rattle.mem_model.specs.declared.memory.Word.{Word}
+use Rattle.mem_model.specs.declared.thread.Answers.{Answers as AnswersData}
+use Rattle.mem_model.specs.declared.thread.StackBlock.{StackBlock}
+use Rattle.mem_model.specs.declared.thread.Frame.{Frame as FrameData}
+use Rattle.mem_model.specs.declared.thread.ThreadState.{ThreadState as ThreadData}
+use Rattle.mem_model.specs.Thread.{Registers, Code, Spot, Frame, Answers, ThreadState}
+use Rattle.mem_model.specs.Next.{result_of}
+
+-- ---- what a state means
+
+abbrev pub value_or_none : Option (Option Word) → Option Word
+value_or_none None = None
+value_or_none (Some value) = value
+
+abbrev pub value_at : List (Option Word) → Option ℕ → Option Word
+value_at values None = None
+value_at values (Some n) = value_or_none (slice_get values n)
+
+-- a register's value stands at the place of its name among the function's registers
+abbrev pub registers_seen : List Name → List (Option Word) → Registers
+registers_seen names values = λ x. value_at values (place_in names x)
+
+abbrev pub place_seen : FrameData → Place
+place_seen f = record { function = f.function; block = f.block; index = f.index }
+
+-- the result of a call goes to the register that the caller's instruction names
+abbrev pub back_seen : Module → List FrameData → Option Name
+back_seen m [] = None
+back_seen m (caller ∷ outer) = result_of (inst_at m (place_seen caller))
+
+abbrev pub code_seen : Module → List FrameData → FrameData → Code
+code_seen m outer f = record { at = place_seen f; registers = registers_seen (register_names m f.function) f.registers; back = back_seen m outer }
+
+abbrev pub block_seen : ℕ → StackBlock → Spot × List Byte
+block_seen own b = ((own, b.number), b.bytes)
+
+-- the blocks from a call's base on to the end, the newest first
+abbrev pub blocks_seen : ℕ → List StackBlock → ℕ → ℕ → List (Spot × List Byte)
+blocks_seen own stack base end = reverse (map (block_seen own) (take (end - base) (drop base stack)))
+
+-- the calls, the innermost first, whose blocks end at this place of the stack
+abbrev pub frames_seen : Module → ℕ → List StackBlock → ℕ → List FrameData → List Frame
+frames_seen m own stack end [] = []
+frames_seen m own stack end (f ∷ outer) = record { code = code_seen m outer f; blocks = blocks_seen own stack f.base end } ∷ frames_seen m own stack f.base outer
+
+abbrev pub answers_seen : AnswersData → Answers
+answers_seen a = record { init = a.init; number = a.number; count = a.count; level = a.level; spmd = a.spmd }
+
+abbrev pub thread_seen : Module → ThreadData → ThreadState
+thread_seen m s = record { own = s.own; counter = s.counter; frames = frames_seen m s.own s.stack (length s.stack) (reverse s.frames); answers = answers_seen s.answers }
+
+-- ---- the states that stand for one
+
+-- each call has a value or none for each register, and the blocks of the stack below it stay below
+abbrev pub AreFrames : Module → ℕ → List FrameData → Type 0
+AreFrames m end [] = end ≡ 0
+AreFrames m end (f ∷ outer) = (length f.registers ≡ length (register_names m f.function)) × (f.base ≤ end) × AreFrames m f.base outer
+
+-- the numbers of the blocks rise, and stay below how many were made
+abbrev pub AreBlocks : ℕ → List StackBlock → Type 0
+AreBlocks low [] = Unit {0}
+AreBlocks low (b ∷ bs) = (low ≤ b.number) × AreBlocks (b.number + 1) bs
+
+abbrev pub IsThread : Module → ThreadData → Type 0
+IsThread m s = AreFrames m (length s.stack) (reverse s.frames) × AreBlocks 0 s.stack × ((i : ℕ) (b : StackBlock) → slice_get s.stack i ≡ Some b → b.number < s.counter)
