@@ -1,0 +1,5 @@
+pub mod Lines
+pub mod LaunchText
+pub mod ScheduleText
+pub mod ReportText
+pub mod Replies
