@@ -3,3 +3,4 @@ pub mod LaunchText
 pub mod ScheduleText
 pub mod ReportText
 pub mod Replies
+pub mod Rows

@@ -1,11 +1,4 @@
 //! The text of a launch.
-ghost use Rattle.run_text.specs.LaunchText.{LaunchOf};
-ghost use Rattle.run_text.specs.Replies.{Answers};
-
-use ir_core::{Checked, Or};
-use mem_model::Launch;
-use std::alloc::Global;
-
 /// What is wrong with a line of a launch's text, in the order in which the faults of one line are told.
 #[derive(Clone, Copy)]
 pub enum LaunchFaultKind {
@@ -32,11 +25,4 @@ pub enum LaunchFaultKind {
 pub struct LaunchFault {
     pub fault: LaunchFaultKind,
     pub line: u32,
-}
-
-/// The launch of the module that the text spells, or the text's first fault.
-pub fn read_launch(alloc: Global, m: &Checked, text: &[u8]) -> Result<Launch, Or<LaunchFault>>
-    ensures { Answers (LaunchOf m.now text.now) result }
-{
-    Err(Or::Memory)
 }

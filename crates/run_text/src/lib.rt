@@ -1,10 +1,13 @@
-//! The texts of a run: which launch of a module and which schedule a text spells, and the text of a report.
+//! The texts of a run as definitions: which launch of a module and which schedule a text spells, and the text of a report.
+//! The calls that read and print them come with the command that replays a schedule.
 #![tactic(auto)]
 
 mod launch;
 mod report;
+mod rows;
 mod schedule;
 
-pub use launch::{LaunchFault, LaunchFaultKind, read_launch};
-pub use report::{Report, ReportEnd, RunMode, print_report};
-pub use schedule::{ScheduleFault, ScheduleFaultKind, read_schedule};
+pub use launch::{LaunchFault, LaunchFaultKind};
+pub use report::{Report, ReportEnd, RunMode};
+pub use rows::{report_row, schedule_rows};
+pub use schedule::{ScheduleFault, ScheduleFaultKind};

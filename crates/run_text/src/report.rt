@@ -1,10 +1,6 @@
 //! Reports of runs.
-ghost use Rattle.std.specs.Prelude.{◌≡◌, IfOk};
-ghost use Rattle.run_text.specs.ReportText.{report_text};
-
-use ir_core::{List, Module, OutOfMemory};
+use ir_core::List;
 use mem_model::{Shown, Trap};
-use std::alloc::Global;
 use team_model::Pair;
 
 /// How a kernel ran.
@@ -43,11 +39,4 @@ pub struct Report {
     pub prints: List<u64>,
     pub memory: List<Shown>,
     pub schedule: List<Pair>,
-}
-
-/// The text of a report. The module is the one that was read; it names the globals.
-pub fn print_report(alloc: Global, m: &Module, r: &Report) -> Result<List<u8>, OutOfMemory>
-    ensures { IfOk result (λ text. text ≡ report_text m.now r.now) }
-{
-    Err(OutOfMemory)
 }

@@ -1,11 +1,4 @@
 //! The text of a schedule.
-ghost use Rattle.run_text.specs.ScheduleText.{PairsOf};
-ghost use Rattle.run_text.specs.Replies.{Answers};
-
-use ir_core::{List, Or};
-use std::alloc::Global;
-use team_model::Pair;
-
 /// What is wrong with a schedule, in the order of their numbers in a refusal.
 #[derive(Clone, Copy)]
 pub enum ScheduleFaultKind {
@@ -27,15 +20,4 @@ pub struct ScheduleFault {
     pub fault: ScheduleFaultKind,
     pub line: u32,
     pub step: u32,
-}
-
-/// The pairs that the text spells, for so many machine threads, or the text's first fault.
-pub fn read_schedule(
-    alloc: Global,
-    text: &[u8],
-    threads: u32,
-) -> Result<List<Pair>, Or<ScheduleFault>>
-    ensures { Answers (PairsOf text.now threads) result }
-{
-    Err(Or::Memory)
 }
