@@ -1,9 +1,9 @@
 -- A text's front up to the limit and one byte spells what the text spells.
-use Rattle.std.proofs.Common.{◌≡◌, ◌⊎◌, ℕ, ◌+◌, ◌<◌, ◌≤◌, min, List, [], ◌∷◌, ◌++◌, length, take, nat_lt, Bool, true, false, Option, Some, None, IfSome, refl, sym, ap, ◌∙◌, subst, arith, if◌then◌else◌, inl, inr, length-take}
-use Rattle.std.proofs.lemmas.List.{take_all, take-take}
+use Rattle.std.proofs.Common.{◌≡◌, ◌⊎◌, ℕ, ◌+◌, ◌<◌, ◌≤◌, min, List, [], ◌∷◌, ◌++◌, length, take, nat_lt, Bool, Option, Some, None, IfSome, refl, sym, ap, ◌∙◌, subst, arith, if◌then◌else◌, inl, inr, length-take}
+use Rattle.std.proofs.lemmas.List.{take-take}
 use Rattle.std.proofs.lemmas.Bool.{lt-ltb, le-ltb, cases_lt}
 use Rattle.ir_core.specs.declared.module.Module.{Module}
-use Rattle.ir_core.specs.Tokens.{Token, Past, Piece, text_start, Pieces, tokens_from, text_limit, has_bad, past_limit, with_past, line_at, line_ends, kept, Lexes, lexemes}
+use Rattle.ir_core.specs.Tokens.{Token, Past, text_start, Pieces, tokens_from, text_limit, has_bad, past_limit, with_past, line_ends, Lexes, lexemes}
 use Rattle.ir_core.specs.Grammar.{functions_to_end, Reads}
 use Rattle.opt_core.specs.Outside.{read_limit}
 use Rattle.opt_core.specs.Answer.{Accepts, IsTextReply, IsFileReply}
