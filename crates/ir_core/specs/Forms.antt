@@ -45,7 +45,7 @@ IsLabel t x = (t.kind ≡ Label) × (stem_name (take (length t.bytes - 1) t.byte
 abbrev pub begins_with_llvm : List ℕ → Bool
 begins_with_llvm x = bytes_eq (take 5 x) (codes "llvm.")
 
--- the name of an item, which is none of llvm's own
+-- the name with which an item begins, a global's: it is none of llvm's own
 abbrev pub IsItemName : Lexeme → List ℕ → Type 0
 IsItemName t x = IsGlobal t x × (begins_with_llvm x ≡ false)
 

@@ -154,7 +154,7 @@ heading = do
   words ← kept_words
   before ← attributes
   result ← result_type
-  name ← one IsItemName
+  name ← one IsGlobal
   open_ ← mark 40
   done (record { words = words; result = result; name = name })
 

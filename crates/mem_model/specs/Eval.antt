@@ -106,7 +106,7 @@ is_ordered Sge width a b = int_le (signed width b) (signed width a)
 is_ordered Slt width a b = int_lt (signed width a) (signed width b)
 is_ordered Sle width a b = int_le (signed width a) (signed width b)
 
--- none for words of different kinds and for an order of pointers, which no checked module has
+-- none for an order of pointers or of words of different kinds, which no checked module has; words of different kinds are never equal
 abbrev pub compared : Pred → ℕ → Word → Word → Option ℕ
 compared Eq width a b = Some (truth (same_word a b))
 compared Ne width a b = Some (truth (not (same_word a b)))
