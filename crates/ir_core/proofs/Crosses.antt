@@ -37,11 +37,11 @@ list_send R s = search (sendable, crosses) depth 20
 
 ruleset parts_send = (sendable, crosses, ty_send, init_send, value_send, typed_send, list_send)
 
--- a search for each variant, since one for all of them runs out of steps
+-- the larger variants by a search each, since one for all of them runs out of steps
 kind_fields_send : IsSend (Kind.the_field).row
 kind_fields_send =
     let S = E.shape Kind.the_type in
-    let each : EachSend S.variants = (search parts_send depth 20, (search parts_send depth 20, (search parts_send depth 20, (search parts_send depth 20, (search parts_send depth 20, (search parts_send depth 20, (search parts_send depth 20, (search parts_send depth 20, (search parts_send depth 20, (search parts_send depth 20, (search parts_send depth 20, (search parts_send depth 20, (search parts_send depth 20, (search parts_send depth 20, (search parts_send depth 20, (search parts_send depth 20, (search parts_send depth 20, tt))))))))))))))))) in
+    let each : EachSend S.variants = (search parts_send depth 20, (search parts_send depth 20, (search parts_send depth 20, (search parts_send depth 20, (search parts_send depth 20, (search parts_send depth 20, (search parts_send depth 20, (search parts_send depth 20, search parts_send depth 60 fits 1000)))))))) in
     enum_send S each
 
 pub kind_send : IsSend Kind.the_row
@@ -85,11 +85,11 @@ list_sync R s = search (sendable, crosses) depth 20
 
 ruleset parts_sync = (sendable, crosses, ty_sync, init_sync, value_sync, typed_sync, list_sync)
 
--- a search for each variant, since one for all of them runs out of steps
+-- the larger variants by a search each, since one for all of them runs out of steps
 kind_fields_sync : IsSync (Kind.the_field).row
 kind_fields_sync =
     let S = E.shape Kind.the_type in
-    let each : EachSync S.variants = (search parts_sync depth 20, (search parts_sync depth 20, (search parts_sync depth 20, (search parts_sync depth 20, (search parts_sync depth 20, (search parts_sync depth 20, (search parts_sync depth 20, (search parts_sync depth 20, (search parts_sync depth 20, (search parts_sync depth 20, (search parts_sync depth 20, (search parts_sync depth 20, (search parts_sync depth 20, (search parts_sync depth 20, (search parts_sync depth 20, (search parts_sync depth 20, (search parts_sync depth 20, tt))))))))))))))))) in
+    let each : EachSync S.variants = (search parts_sync depth 20, (search parts_sync depth 20, (search parts_sync depth 20, (search parts_sync depth 20, (search parts_sync depth 20, (search parts_sync depth 20, (search parts_sync depth 20, (search parts_sync depth 20, search parts_sync depth 60 fits 1000)))))))) in
     enum_sync S each
 
 pub kind_sync : IsSync Kind.the_row
