@@ -8,3 +8,4 @@ pub mod Runs
 pub mod Spelled
 pub mod EntryPoints
 pub mod Standing
+pub mod Crosses

@@ -7,6 +7,7 @@
 mod answers;
 mod checked;
 mod copy;
+mod crossing;
 mod instructions;
 mod module;
 mod name;
@@ -19,6 +20,7 @@ mod words;
 pub use answers::{Or, OutOfMemory};
 pub use checked::{Changed, Checked, Marked, OutModule, Place};
 pub use copy::Copies;
+pub use crossing::{code_crosses, globals_cross, modules_cross, operands_cross, types_cross};
 pub use instructions::{
     BinOp, Case, CastOp, Edge, Flags, Inst, Kind, Order, Pred, RmwOp, TailWord, Typed, Value,
 };

@@ -1,0 +1,119 @@
+-- The data of a module may go from one thread to another, and be read by several at once.
+-- `module_crosses` has these facts for `search`, beside `sendable`.
+-- A type's `the_row` is the type, and its `the_field.row` is its fields, which is what holds it asks about.
+use denote.Enum.Declared as E
+use denote.Param.Send.{IsSend, IsSync, EachSend, EachSync, sendable, recorded_send, recorded_sync, enum_send, enum_sync}
+use denote.RattleType.{RattleType}
+use Rattle.ir_core.proofs.module.Init.TheLaws.TheKnot as init_knot
+use Rattle.ir_core.proofs.types.Ty.TheLaws.TheKnot as ty_knot
+use Rattle.ir_core.specs.contracts.checked.Checked as Checked
+use Rattle.ir_core.specs.contracts.checked.OutModule as OutModule
+use Rattle.ir_core.specs.contracts.instructions.Inst as Inst
+use Rattle.ir_core.specs.contracts.instructions.Kind as Kind
+use Rattle.ir_core.specs.contracts.instructions.Typed as Typed
+use Rattle.ir_core.specs.contracts.instructions.Value as Value
+use Rattle.ir_core.specs.contracts.module.Block as Block
+use Rattle.ir_core.specs.contracts.module.Function as Function
+use Rattle.ir_core.specs.contracts.module.Init as Init
+use Rattle.ir_core.specs.contracts.module.Module as Module
+use Rattle.ir_core.specs.contracts.types.Ty as Ty
+use Rattle.sqlite_items.specs.contracts.items.Items as List
+use Rattle.std.proofs.Crossing.{crosses}
+
+ty_send : IsSend (Ty.the_field).row
+ty_send = search (sendable, crosses, ty_knot.crosses) depth 20
+
+init_send : IsSend (Init.the_field).row
+init_send = search (sendable, crosses, ty_send, init_knot.crosses) depth 20
+
+value_send : IsSend (Value.the_field).row
+value_send = search (sendable, crosses) depth 20
+
+typed_send : IsSend (Typed.the_field).row
+typed_send = search (sendable, ty_send, value_send) depth 20
+
+list_send : (R : RattleType) → IsSend R → IsSend (List.the_row R)
+list_send R s = search (sendable, crosses) depth 20
+
+ruleset parts_send = (sendable, crosses, ty_send, init_send, value_send, typed_send, list_send)
+
+-- the larger variants by a search each, since one for all of them runs out of steps
+kind_fields_send : IsSend (Kind.the_field).row
+kind_fields_send =
+    let S = E.shape Kind.the_type in
+    let each : EachSend S.variants = (search parts_send depth 20, (search parts_send depth 20, (search parts_send depth 20, (search parts_send depth 20, (search parts_send depth 20, (search parts_send depth 20, (search parts_send depth 20, (search parts_send depth 20, search parts_send depth 60 fits 1000)))))))) in
+    enum_send S each
+
+pub kind_send : IsSend Kind.the_row
+kind_send = search (recorded_send, kind_fields_send)
+
+pub inst_send : IsSend Inst.the_row
+inst_send = search (parts_send, kind_fields_send) depth 20
+
+pub block_send : IsSend Block.the_row
+block_send = let insts = list_send Inst.the_row inst_send in search parts_send depth 20
+
+pub function_send : IsSend Function.the_row
+function_send = let blocks = list_send Block.the_row block_send in search parts_send depth 20
+
+module_fields_send : IsSend (Module.the_field).row
+module_fields_send = let functions = list_send Function.the_row function_send in search parts_send depth 20
+
+pub module_send : IsSend Module.the_row
+module_send = search (recorded_send, module_fields_send)
+
+pub checked_send : IsSend Checked.the_row
+checked_send = search (parts_send, module_fields_send) depth 20
+
+pub out_module_send : IsSend OutModule.the_row
+out_module_send = search (parts_send, module_fields_send) depth 20
+
+ty_sync : IsSync (Ty.the_field).row
+ty_sync = search (sendable, crosses, ty_knot.crosses) depth 20
+
+init_sync : IsSync (Init.the_field).row
+init_sync = search (sendable, crosses, ty_sync, init_knot.crosses) depth 20
+
+value_sync : IsSync (Value.the_field).row
+value_sync = search (sendable, crosses) depth 20
+
+typed_sync : IsSync (Typed.the_field).row
+typed_sync = search (sendable, ty_sync, value_sync) depth 20
+
+list_sync : (R : RattleType) → IsSync R → IsSync (List.the_row R)
+list_sync R s = search (sendable, crosses) depth 20
+
+ruleset parts_sync = (sendable, crosses, ty_sync, init_sync, value_sync, typed_sync, list_sync)
+
+-- the larger variants by a search each, since one for all of them runs out of steps
+kind_fields_sync : IsSync (Kind.the_field).row
+kind_fields_sync =
+    let S = E.shape Kind.the_type in
+    let each : EachSync S.variants = (search parts_sync depth 20, (search parts_sync depth 20, (search parts_sync depth 20, (search parts_sync depth 20, (search parts_sync depth 20, (search parts_sync depth 20, (search parts_sync depth 20, (search parts_sync depth 20, search parts_sync depth 60 fits 1000)))))))) in
+    enum_sync S each
+
+pub kind_sync : IsSync Kind.the_row
+kind_sync = search (recorded_sync, kind_fields_sync)
+
+pub inst_sync : IsSync Inst.the_row
+inst_sync = search (parts_sync, kind_fields_sync) depth 20
+
+pub block_sync : IsSync Block.the_row
+block_sync = let insts = list_sync Inst.the_row inst_sync in search parts_sync depth 20
+
+pub function_sync : IsSync Function.the_row
+function_sync = let blocks = list_sync Block.the_row block_sync in search parts_sync depth 20
+
+module_fields_sync : IsSync (Module.the_field).row
+module_fields_sync = let functions = list_sync Function.the_row function_sync in search parts_sync depth 20
+
+pub module_sync : IsSync Module.the_row
+module_sync = search (recorded_sync, module_fields_sync)
+
+pub checked_sync : IsSync Checked.the_row
+checked_sync = search (parts_sync, module_fields_sync) depth 20
+
+pub out_module_sync : IsSync OutModule.the_row
+out_module_sync = search (parts_sync, module_fields_sync) depth 20
+
+pub ruleset module_crosses = (kind_send, kind_sync, inst_send, inst_sync, block_send, block_sync, function_send, function_sync, module_send, module_sync, checked_send, checked_sync, out_module_send, out_module_sync)
