@@ -6,6 +6,7 @@
 
 mod laid;
 mod laws;
+mod names;
 mod offsets;
 mod order;
 mod table;
