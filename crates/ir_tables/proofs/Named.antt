@@ -5,9 +5,12 @@ use Rattle.std.specs.Str.{bytes_eq}
 use Rattle.std.proofs.Math.Seq.{take-suc}
 use Rattle.std.proofs.lemmas.List.{map-append, length-map, length-take-le}
 use Rattle.std.proofs.lemmas.Slice.Eq.{bytes_eq-Decides}
-use Rattle.ir_core.specs.Places.{place_from, place_in}
+use Rattle.ir_core.specs.Places.{place_from, place_in, register_names_of, labels_of}
 use Rattle.ir_core.specs.declared.module.Function.{Function}
+use Rattle.ir_core.specs.declared.module.Module.{Module}
+use Rattle.ir_tables.specs.declared.indexed.Indexed.TheInside.{Inside}
 use Rattle.ir_tables.specs.declared.names.Locals.{Locals}
+use Rattle.ir_tables.specs.Indexed.{AreTables}
 use Rattle.indexmap.specs.IndexMap.{IndexMap}
 use Rattle.ir_tables.specs.Names.{names_seen, found_place, HasPlaces, AreLocals, AreAllLocals}
 use Rattle.ir_tables.proofs.Places.{same_turned}
@@ -81,10 +84,10 @@ all_locals-push (g ∷ fs) [] f l all one = absurd all
 all_locals-push (g ∷ fs) (k ∷ ls) f l all one = (all.0, all_locals-push fs ls f l all.1 one)
 
 -- the names of the functions so far, with those of one more
-pub all_locals_more : (fs : List Function) (at : ℕ) (d : Function) (ls new : List Locals) (l : Locals) → at < length fs → AreAllLocals (take at fs) ls → AreLocals (get_or fs at d) l → new ≡ ls ++ l ∷ [] → AreAllLocals (take (at + 1) fs) new
-all_locals_more fs at d ls new l low all one is =
-    let more : take (at + 1) fs ≡ take at fs ++ get_or fs at d ∷ [] = ap (λ n. take n fs) (add-one at) ∙ take-suc fs at d low in
-    subst (λ gs. AreAllLocals gs new) (sym more) (subst (AreAllLocals (take at fs ++ get_or fs at d ∷ [])) (sym is) (all_locals-push (take at fs) ls (get_or fs at d) l all one))
+pub all_locals_more : (fs : List Function) (at : ℕ) (d f : Function) (ls new : List Locals) (l : Locals) → at < length fs → get_or fs at d ≡ f → AreAllLocals (take at fs) ls → AreLocals f l → new ≡ ls ++ l ∷ [] → AreAllLocals (take (at + 1) fs) new
+all_locals_more fs at d f ls new l low here all one is =
+    let more : take (at + 1) fs ≡ take at fs ++ f ∷ [] = ap (λ n. take n fs) (add-one at) ∙ take-suc fs at d low ∙ ap (λ g. take at fs ++ g ∷ []) here in
+    subst (λ gs. AreAllLocals gs new) (sym more) (subst (AreAllLocals (take at fs ++ f ∷ [])) (sym is) (all_locals-push (take at fs) ls f l all one))
 
 -- the names of the function at a place, where there is one
 abbrev pub AreLocalsAt : Option Function → Option Locals → Type 0
@@ -99,3 +102,34 @@ locals_at [] (k ∷ ls) at all = absurd all
 locals_at (g ∷ fs) [] at all = absurd all
 locals_at (g ∷ fs) (k ∷ ls) zero all = all.0
 locals_at (g ∷ fs) (k ∷ ls) (suc at) all = locals_at fs ls at all.1
+
+-- ---- what is found at a place
+
+none_is : (o : Option Function) → AreLocalsAt o None → o ≡ None
+none_is None at = refl
+none_is (Some f) at = absurd at
+
+pub registers_are : (o : Option Function) (l : Locals) (x : List ℕ) → AreLocalsAt o (Some l) → found_place l.registers x ≡ place_in (register_names_of o) x
+registers_are None l x at = absurd at
+registers_are (Some f) l x at = at.registers x
+
+pub count_is : (o : Option Function) (l : Locals) → AreLocalsAt o (Some l) → l.count ≡ length (register_names_of o)
+count_is None l at = absurd at
+count_is (Some f) l at = at.count
+
+pub blocks_are : (o : Option Function) (l : Locals) (x : List ℕ) → AreLocalsAt o (Some l) → found_place l.blocks x ≡ place_in (labels_of o) x
+blocks_are None l x at = absurd at
+blocks_are (Some f) l x at = at.blocks x
+
+module _ (i : Inside) (tables : AreTables i) (m : Module) (is : i.module.now ≡ m) (function : ℕ) where
+  abbrev there : Option Function
+  there = slice_get m.functions function
+
+  at_place : (o : Option Locals) → o ≡ slice_get i.locals function → AreLocalsAt there o
+  at_place o e = subst (λ (n : Module). AreLocalsAt (slice_get n.functions function) o) is (subst (AreLocalsAt (slice_get i.module.now.functions function)) (sym e) (locals_at i.module.now.functions i.locals function tables.locals))
+
+  pub no_function : None ≡ slice_get i.locals function → there ≡ None
+  no_function e = none_is there (at_place None e)
+
+  pub function_locals : (l : Locals) → Some l ≡ slice_get i.locals function → AreLocalsAt there (Some l)
+  function_locals l e = at_place (Some l) e

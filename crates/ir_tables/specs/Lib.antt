@@ -3,3 +3,4 @@ pub mod Table
 pub mod Walk
 pub mod Laws
 pub mod Names
+pub mod Indexed

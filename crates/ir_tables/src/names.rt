@@ -9,20 +9,20 @@ use ir_core::{Block, Function, Inst, List, Name, OutOfMemory, Param};
 use std::alloc::Global;
 
 /// Names with their places in a list, each with its first.
-pub(crate) type Table<'a> = IndexMap<&'a [u8], usize>;
+pub(crate) type NameTable<'a> = IndexMap<&'a [u8], usize>;
 
 /// The names of one function.
 #[derive(Drop)]
 pub(crate) struct Locals<'a> {
     /// Its parameters and then its results, in the order of the text.
-    pub(crate) registers: Table<'a>,
-    pub(crate) blocks: Table<'a>,
+    pub(crate) registers: NameTable<'a>,
+    pub(crate) blocks: NameTable<'a>,
     /// How many registers it has.
     pub(crate) count: usize,
 }
 
 /// The table of a list of names. A name that stands twice keeps its first place.
-fn table_of<'a>(alloc: Global, names: &[&'a [u8]]) -> Result<Table<'a>, OutOfMemory>
+fn table_of<'a>(alloc: Global, names: &[&'a [u8]]) -> Result<NameTable<'a>, OutOfMemory>
     ensures { IfOk result (λ t. HasPlaces (names_seen names.now) t) }
 {
     let mut table = IndexMap::new(alloc);
@@ -39,7 +39,7 @@ fn table_of<'a>(alloc: Global, names: &[&'a [u8]]) -> Result<Table<'a>, OutOfMem
 }
 
 /// The place of a name in a table.
-pub(crate) fn place(table: &Table, name: &Name) -> Option<usize>
+pub(crate) fn place(table: &NameTable, name: &Name) -> Option<usize>
     ensures { result ≡ found_place table.now name.now }
 {
     table.get(name.as_slice()).copied()
@@ -49,7 +49,7 @@ pub(crate) fn place(table: &Table, name: &Name) -> Option<usize>
 pub(crate) fn globals_of<'a>(
     alloc: Global,
     globals: &'a [ir_core::Global],
-) -> Result<Table<'a>, OutOfMemory>
+) -> Result<NameTable<'a>, OutOfMemory>
     ensures { IfOk result (λ t. HasPlaces (map global_name globals.now) t) }
 {
     let mut names = List::new(alloc);
@@ -63,7 +63,7 @@ pub(crate) fn globals_of<'a>(
 pub(crate) fn functions_of<'a>(
     alloc: Global,
     functions: &'a [Function],
-) -> Result<Table<'a>, OutOfMemory>
+) -> Result<NameTable<'a>, OutOfMemory>
     ensures { IfOk result (λ t. HasPlaces (map function_name functions.now) t) }
 {
     let mut names = List::new(alloc);
@@ -73,7 +73,7 @@ pub(crate) fn functions_of<'a>(
     table_of(alloc, names.as_slice())
 }
 
-fn blocks_of<'a>(alloc: Global, blocks: &'a [Block]) -> Result<Table<'a>, OutOfMemory>
+fn blocks_of<'a>(alloc: Global, blocks: &'a [Block]) -> Result<NameTable<'a>, OutOfMemory>
     ensures { IfOk result (λ t. HasPlaces (map block_name blocks.now) t) }
 {
     let mut names = List::new(alloc);
