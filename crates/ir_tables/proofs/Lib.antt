@@ -3,6 +3,7 @@ pub mod Numbers
 pub mod Kept
 pub mod Tables
 pub mod Places
+pub mod Named
 pub mod Sizes
 pub mod WellFormed
 pub mod Walks

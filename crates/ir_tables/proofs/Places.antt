@@ -15,7 +15,7 @@ use Rattle.ir_tables.specs.declared.table.Place.{Place}
 use Rattle.ir_tables.specs.declared.table.Place.TheVariants.{Once, Twice}
 use Rattle.ir_tables.specs.Table.{body_at, only_place, next_place}
 
-same_turned : (x y : List ℕ) → bytes_eq x y ≡ bytes_eq y x
+pub same_turned : (x y : List ℕ) → bytes_eq x y ≡ bytes_eq y x
 same_turned x y = same_from_decides (bytes_eq x y) (bytes_eq y x) (bytes_eq-Decides x y) ((λ e. sym ((bytes_eq-Decides y x).0 e)), (λ e. (bytes_eq-Decides y x).1 (sym e)))
 
 -- ---- a name more in a table

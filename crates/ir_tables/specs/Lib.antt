@@ -2,3 +2,5 @@ pub mod Laid
 pub mod Table
 pub mod Walk
 pub mod Laws
+pub mod Names
+pub mod Indexed

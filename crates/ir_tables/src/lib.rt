@@ -4,8 +4,10 @@
 //! and `types` keeps all of it for a module's types.
 #![tactic(auto)]
 
+mod indexed;
 mod laid;
 mod laws;
+mod names;
 mod offsets;
 mod order;
 mod table;
@@ -13,6 +15,7 @@ mod table;
 mod tests;
 mod types;
 
+pub use indexed::Indexed;
 pub use laws::{
     array_of_structs, byte_and_word, contains_itself, field_of_third, first_item,
     four_numbers_and_pointer, no_fields, no_such_field, one_back,
