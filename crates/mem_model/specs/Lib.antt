@@ -16,4 +16,3 @@ pub mod MemoryLaws
 pub mod Answers
 pub mod Coded
 pub mod Kept
-pub mod Seen

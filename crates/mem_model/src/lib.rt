@@ -16,7 +16,6 @@ mod shared;
 mod step;
 #[cfg(test)]
 mod tests;
-mod thread;
 
 pub use arithmetic::{compare, eval, sign_extend};
 pub use bytes::{cell_size, number_of, place_in, read_word, write_word};
@@ -26,4 +25,3 @@ pub use launch::{Arg, Launch, Shown};
 pub use memory::{BlockName, Byte, Cell, Ptr, Word};
 pub use shared::Memory;
 pub use step::{End, Moved, NotReady, Trap};
-pub use thread::{Answers, Frame, StackBlock, ThreadState};

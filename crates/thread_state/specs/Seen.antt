@@ -4,10 +4,10 @@ use Rattle.ir_core.specs.declared.module.Module.{Module}
 use Rattle.ir_core.specs.Places.{Name, Place, place_in, register_names, inst_at}
 use Rattle.mem_model.specs.declared.memory.Byte.{Byte}
 use Rattle.mem_model.specs.declared.memory.Word.{Word}
-use Rattle.mem_model.specs.declared.thread.Answers.{Answers as AnswersData}
-use Rattle.mem_model.specs.declared.thread.StackBlock.{StackBlock}
-use Rattle.mem_model.specs.declared.thread.Frame.{Frame as FrameData}
-use Rattle.mem_model.specs.declared.thread.ThreadState.{ThreadState as ThreadData}
+use Rattle.thread_state.specs.declared.state.Answers.{Answers as AnswersData}
+use Rattle.thread_state.specs.declared.state.StackBlock.{StackBlock}
+use Rattle.thread_state.specs.declared.state.Frame.{Frame as FrameData}
+use Rattle.thread_state.specs.declared.state.ThreadState.{ThreadState as ThreadData}
 use Rattle.mem_model.specs.Thread.{Registers, Code, Spot, Frame, Answers, ThreadState}
 use Rattle.mem_model.specs.Next.{result_of}
 

@@ -1,7 +1,7 @@
 //! The state of a thread: the calls that have not returned, their registers, the blocks of its stack, and what the entry
 //! points of the runtime answer to it. What a state means is `thread_seen` of `specs/Seen.antt`.
-use crate::memory::{Byte, Word};
 use ir_core::List;
+use mem_model::{Byte, Word};
 
 /// What the entry points answer to a thread.
 #[derive(Clone, Copy)]
