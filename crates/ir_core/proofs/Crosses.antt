@@ -1,8 +1,8 @@
 -- The data of a module may go from one thread to another, and be read by several at once.
 -- `module_crosses` has these facts for `search`, beside `sendable`.
--- A type's `the_row` is the type, and its `the_field.row` is its fields, which is what holds it asks about.
+-- They are of `the_field.row`, a type's fields, which is what a type that holds it asks about; from there `recorded_send` has `the_row`, the type.
 use denote.Enum.Declared as E
-use denote.Param.Send.{IsSend, IsSync, EachSend, EachSync, sendable, recorded_send, recorded_sync, enum_send, enum_sync}
+use denote.Param.Send.{IsSend, IsSync, EachSend, EachSync, sendable, enum_send, enum_sync}
 use denote.RattleType.{RattleType}
 use Rattle.ir_core.proofs.module.Init.TheLaws.TheKnot as init_knot
 use Rattle.ir_core.proofs.types.Ty.TheLaws.TheKnot as ty_knot
@@ -38,35 +38,29 @@ list_send R s = search (sendable, crosses) depth 20
 ruleset parts_send = (sendable, crosses, ty_send, init_send, value_send, typed_send, list_send)
 
 -- the larger variants by a search each, since one for all of them runs out of steps
-kind_fields_send : IsSend (Kind.the_field).row
-kind_fields_send =
+pub kind_send : IsSend (Kind.the_field).row
+kind_send =
     let S = E.shape Kind.the_type in
     let each : EachSend S.variants = (search parts_send depth 20, (search parts_send depth 20, (search parts_send depth 20, (search parts_send depth 20, (search parts_send depth 20, (search parts_send depth 20, (search parts_send depth 20, (search parts_send depth 20, search parts_send depth 60 fits 1000)))))))) in
     enum_send S each
 
-pub kind_send : IsSend Kind.the_row
-kind_send = search (recorded_send, kind_fields_send)
+pub inst_send : IsSend (Inst.the_field).row
+inst_send = search (parts_send, kind_send) depth 20
 
-pub inst_send : IsSend Inst.the_row
-inst_send = search (parts_send, kind_fields_send) depth 20
+pub block_send : IsSend (Block.the_field).row
+block_send = search (parts_send, inst_send) depth 20
 
-pub block_send : IsSend Block.the_row
-block_send = let insts = list_send Inst.the_row inst_send in search parts_send depth 20
+pub function_send : IsSend (Function.the_field).row
+function_send = search (parts_send, block_send) depth 20
 
-pub function_send : IsSend Function.the_row
-function_send = let blocks = list_send Block.the_row block_send in search parts_send depth 20
-
-module_fields_send : IsSend (Module.the_field).row
-module_fields_send = let functions = list_send Function.the_row function_send in search parts_send depth 20
-
-pub module_send : IsSend Module.the_row
-module_send = search (recorded_send, module_fields_send)
+pub module_send : IsSend (Module.the_field).row
+module_send = search (parts_send, function_send) depth 20
 
 pub checked_send : IsSend Checked.the_row
-checked_send = search (parts_send, module_fields_send) depth 20
+checked_send = search (parts_send, module_send) depth 20
 
 pub out_module_send : IsSend OutModule.the_row
-out_module_send = search (parts_send, module_fields_send) depth 20
+out_module_send = search (parts_send, module_send) depth 20
 
 ty_sync : IsSync (Ty.the_field).row
 ty_sync = search (sendable, crosses, ty_knot.crosses) depth 20
@@ -86,34 +80,28 @@ list_sync R s = search (sendable, crosses) depth 20
 ruleset parts_sync = (sendable, crosses, ty_sync, init_sync, value_sync, typed_sync, list_sync)
 
 -- the larger variants by a search each, since one for all of them runs out of steps
-kind_fields_sync : IsSync (Kind.the_field).row
-kind_fields_sync =
+pub kind_sync : IsSync (Kind.the_field).row
+kind_sync =
     let S = E.shape Kind.the_type in
     let each : EachSync S.variants = (search parts_sync depth 20, (search parts_sync depth 20, (search parts_sync depth 20, (search parts_sync depth 20, (search parts_sync depth 20, (search parts_sync depth 20, (search parts_sync depth 20, (search parts_sync depth 20, search parts_sync depth 60 fits 1000)))))))) in
     enum_sync S each
 
-pub kind_sync : IsSync Kind.the_row
-kind_sync = search (recorded_sync, kind_fields_sync)
+pub inst_sync : IsSync (Inst.the_field).row
+inst_sync = search (parts_sync, kind_sync) depth 20
 
-pub inst_sync : IsSync Inst.the_row
-inst_sync = search (parts_sync, kind_fields_sync) depth 20
+pub block_sync : IsSync (Block.the_field).row
+block_sync = search (parts_sync, inst_sync) depth 20
 
-pub block_sync : IsSync Block.the_row
-block_sync = let insts = list_sync Inst.the_row inst_sync in search parts_sync depth 20
+pub function_sync : IsSync (Function.the_field).row
+function_sync = search (parts_sync, block_sync) depth 20
 
-pub function_sync : IsSync Function.the_row
-function_sync = let blocks = list_sync Block.the_row block_sync in search parts_sync depth 20
-
-module_fields_sync : IsSync (Module.the_field).row
-module_fields_sync = let functions = list_sync Function.the_row function_sync in search parts_sync depth 20
-
-pub module_sync : IsSync Module.the_row
-module_sync = search (recorded_sync, module_fields_sync)
+pub module_sync : IsSync (Module.the_field).row
+module_sync = search (parts_sync, function_sync) depth 20
 
 pub checked_sync : IsSync Checked.the_row
-checked_sync = search (parts_sync, module_fields_sync) depth 20
+checked_sync = search (parts_sync, module_sync) depth 20
 
 pub out_module_sync : IsSync OutModule.the_row
-out_module_sync = search (parts_sync, module_fields_sync) depth 20
+out_module_sync = search (parts_sync, module_sync) depth 20
 
 pub ruleset module_crosses = (kind_send, kind_sync, inst_send, inst_sync, block_send, block_sync, function_send, function_sync, module_send, module_sync, checked_send, checked_sync, out_module_send, out_module_sync)
