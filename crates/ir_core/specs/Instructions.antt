@@ -1,5 +1,5 @@
 -- Instructions and blocks: which tokens spell which (LLVM Language Reference, "Instruction Reference").
-use Rattle.std.specs.Prelude.{if◌then◌else◌, ◌≡◌, ℕ, ◌+◌, ◌-◌, List, [], ◌∷◌, ◌++◌, take, codes, ◌⊎◌, Bool, true, false, not}
+use Rattle.std.specs.Prelude.{if◌then◌else◌, ◌≡◌, ℕ, List, [], ◌∷◌, ◌++◌, take, codes, ◌⊎◌, Bool, true, false, not}
 use Rattle.std.specs.Prelude.{Some as Present, None as Absent, Option}
 use Rattle.std.specs.List.{filter}
 use Rattle.std.specs.Str.{bytes_eq}

@@ -1,5 +1,5 @@
 -- The language: which tokens spell which module (LLVM Language Reference, "High Level Structure"), for the integer subset.
-use Rattle.std.specs.Prelude.{if◌then◌else◌, ◌≡◌, ℕ, zero, suc, ◌+◌, ◌-◌, List, [], ◌∷◌, ◌++◌, length, take, drop, map, codes, decimal, ◌⊎◌, Bool, true, false, not}
+use Rattle.std.specs.Prelude.{if◌then◌else◌, ◌≡◌, ℕ, zero, suc, List, [], ◌∷◌, ◌++◌, length, take, drop, map, codes, decimal, ◌⊎◌, Bool, true, false, not}
 use Rattle.std.specs.Prelude.{Some as Present, None as Absent, Option}
 use Rattle.std.specs.List.{filter, flat_map, list_all}
 use Rattle.std.specs.Str.{bytes_eq}
@@ -18,7 +18,7 @@ use Rattle.ir_core.specs.Tokens.{Lexeme, Token, CText, Passive, Word, Lexes, lex
 use Rattle.ir_core.specs.Bytes.{between}
 use Rattle.ir_core.specs.Escapes.{quoted_bytes}
 use Rattle.ir_core.specs.Spell.{◌>>=◌, Spell, done, one, any, many, IsWordIn, IsWord, word, mark, with_line, list_to}
-use Rattle.ir_core.specs.Forms.{maybe, dropped, token, IsLocal, IsGlobal, IsItemName, IsLength, nesting_limit, type_, result_type, IsOneOf, attributes, IsValue, next, target}
+use Rattle.ir_core.specs.Forms.{maybe, token, IsLocal, IsGlobal, IsItemName, IsLength, nesting_limit, type_, result_type, IsOneOf, attributes, IsValue, next}
 use Rattle.ir_core.specs.Instructions.{next_alignment, attachment, IsText, conventions, plain_function_words, IsGroup, body_of, block}
 
 -- ---- numbers as names: what has none takes the count of the names before it in its function that are numbers
