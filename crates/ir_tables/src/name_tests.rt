@@ -4,9 +4,9 @@ use ir_core::{Block, Function, Inst, Kind, List, Module, Name, Order, Param, Ty}
 use std::alloc::{AllocError, Global};
 use std::test::Fail;
 
-fn inst(alloc: Global, result: &[u8]) -> Result<Inst, AllocError> {
+fn inst(alloc: Global, name: &[u8]) -> Result<Inst, AllocError> {
     Ok(Inst {
-        result: Some(Name::from_slice(alloc, result)?),
+        result: Some(Name::from_slice(alloc, name)?),
         kind: Kind::Fence {
             order: Order::SeqCst,
         },
