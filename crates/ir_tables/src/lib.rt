@@ -1,12 +1,14 @@
-//! Look-ups of named things, made once for a module. By now that is how its types lie in memory.
+//! Look-ups of named things, made once for a module: its functions, globals, registers and blocks, and how its types lie in memory.
 //!
 //! `laid` reckons with layouts, `table` looks the named ones up, `order` says in which order they are laid out,
-//! and `types` keeps all of it for a module's types.
+//! and `types` keeps all of it for a module's types. `names` makes tables of other names, and `indexed` keeps all for a module.
 #![tactic(auto)]
 
 mod indexed;
 mod laid;
 mod laws;
+#[cfg(test)]
+mod name_tests;
 mod names;
 mod offsets;
 mod order;

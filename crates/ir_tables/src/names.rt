@@ -110,10 +110,7 @@ fn add_results<'a>(names: &mut List<&'a [u8]>, insts: &'a [Inst]) -> Result<(), 
     Ok(())
 }
 
-fn add_block_results<'a>(
-    names: &mut List<&'a [u8]>,
-    blocks: &'a [Block],
-) -> Result<(), OutOfMemory>
+fn add_block_results<'a>(names: &mut List<&'a [u8]>, blocks: &'a [Block]) -> Result<(), OutOfMemory>
     ensures { OnOk result (names_seen names.new ≡ names_seen names.old ++ flat_map block_results blocks.now) }
 {
     for block in blocks {

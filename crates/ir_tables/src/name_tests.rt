@@ -1,0 +1,94 @@
+//! Look-ups in a small module.
+use crate::indexed::Indexed;
+use ir_core::{Block, Function, Inst, Kind, List, Module, Name, Order, Param, Ty};
+use std::alloc::{AllocError, Global};
+use std::test::Fail;
+
+fn inst(alloc: Global, name: &[u8]) -> Result<Inst, AllocError> {
+    Ok(Inst {
+        result: Some(Name::from_slice(alloc, name)?),
+        kind: Kind::Fence {
+            order: Order::SeqCst,
+        },
+        line: 1,
+    })
+}
+
+fn block(alloc: Global, name: &[u8], results: &[&[u8]]) -> Result<Block, AllocError> {
+    let mut insts = List::new(alloc);
+    for result in results {
+        insts.push(inst(alloc, *result)?)?;
+    }
+    Ok(Block {
+        name: Name::from_slice(alloc, name)?,
+        insts,
+        line: 1,
+    })
+}
+
+fn params(alloc: Global, names: &[&[u8]]) -> Result<List<Param>, AllocError> {
+    let mut params = List::new(alloc);
+    for name in names {
+        let name = Name::from_slice(alloc, *name)?;
+        params.push(Param { name, ty: Ty::Ptr })?;
+    }
+    Ok(params)
+}
+
+fn function(
+    alloc: Global,
+    name: &[u8],
+    params: List<Param>,
+    blocks: List<Block>,
+) -> Result<Function, AllocError> {
+    Ok(Function {
+        name: Name::from_slice(alloc, name)?,
+        words: List::new(alloc),
+        ret: Ty::Void,
+        params,
+        groups: List::new(alloc),
+        blocks,
+        line: 1,
+    })
+}
+
+// `@outside` is declared; `@main` has the parameters `%a` and `%b`, the blocks `%entry` and `%exit`, and the results `%c`, `%a` and `%d`.
+fn some_module(alloc: Global) -> Result<Module, AllocError> {
+    let mut blocks = List::new(alloc);
+    blocks.push(block(alloc, b"entry", &[b"c", b"a"])?)?;
+    blocks.push(block(alloc, b"exit", &[b"d"])?)?;
+    let mut functions = List::new(alloc);
+    functions.push(function(alloc, b"outside", List::new(alloc), List::new(alloc))?)?;
+    functions.push(function(alloc, b"main", params(alloc, &[b"a", b"b"])?, blocks)?)?;
+    Ok(Module {
+        prelude: List::new(alloc),
+        types: List::new(alloc),
+        globals: List::new(alloc),
+        functions,
+        tail: List::new(alloc),
+    })
+}
+
+#[test]
+fn places_of_names(rt: HostRuntime) -> Result<(), Fail> {
+    let alloc = rt.alloc();
+    let module = some_module(alloc)?;
+    let indexed = Indexed::of(alloc, &module)?;
+    let main = Name::from_slice(alloc, b"main")?;
+    let a = Name::from_slice(alloc, b"a")?;
+    let d = Name::from_slice(alloc, b"d")?;
+    let exit = Name::from_slice(alloc, b"exit")?;
+    assert_eq!(rt; indexed.module().functions.len(), 2);
+    assert_eq!(rt; indexed.function(&main), Some(1));
+    assert_eq!(rt; indexed.global(&main), None);
+    assert_eq!(rt; indexed.register(1, &a), Some(0));
+    assert_eq!(rt; indexed.register(1, &d), Some(4));
+    assert_eq!(rt; indexed.register(0, &a), None);
+    assert_eq!(rt; indexed.register_count(1), 5);
+    assert_eq!(rt; indexed.register_count(2), 0);
+    assert_eq!(rt; indexed.block(1, &exit), Some(1));
+    assert_eq!(rt; indexed.block(1, &d), None);
+    assert_eq!(rt; indexed.size_of(&Ty::Ptr), 8);
+    assert_eq!(rt; indexed.offset_of(&Ty::Ptr, &[3]), Some(24));
+    Ok(())
+}
