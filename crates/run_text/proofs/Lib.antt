@@ -1,1 +1,4 @@
 pub mod ShortTexts
+pub mod LineEnds
+pub mod CappedNumbers
+pub mod Pairs

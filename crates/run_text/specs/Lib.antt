@@ -1,4 +1,5 @@
 pub mod Lines
+pub mod Capped
 pub mod LaunchText
 pub mod ScheduleText
 pub mod ReportText

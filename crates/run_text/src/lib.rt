@@ -3,6 +3,7 @@
 #![tactic(auto)]
 
 mod launch;
+mod lines;
 mod report;
 mod rows;
 mod schedule;
@@ -10,4 +11,4 @@ mod schedule;
 pub use launch::{LaunchFault, LaunchFaultKind};
 pub use report::{Report, ReportEnd, RunMode};
 pub use rows::{report_row, schedule_rows};
-pub use schedule::{ScheduleFault, ScheduleFaultKind};
+pub use schedule::{ScheduleFault, ScheduleFaultKind, read_schedule};

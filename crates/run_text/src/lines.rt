@@ -1,0 +1,81 @@
+//! Lines of a text, and what stands in one.
+ghost use Rattle.std.specs.Prelude.{◌≡◌, ◌<◌, ◌^◌, [], ◌∷◌, None, Some, length, option_map, MatchOption};
+ghost use Rattle.std.specs.List.{list_all};
+ghost use Rattle.ir_core.specs.Numbers.{value_of};
+ghost use Rattle.run_text.specs.Lines.{lines, is_digit, is_numeral, numeral};
+ghost use Rattle.run_text.specs.Capped.{capped, with_digit};
+
+use memchr::memchr;
+
+/// The first line of a text, without its end, and what comes behind it.
+pub(crate) fn first_line(text: &[u8]) -> (&[u8], &[u8])
+    requires { 0 < length text.now }
+    ensures lines { lines text.now ≡ result.0.now ∷ lines result.1.now }
+    ensures fewer { length result.1.now < length text.now }
+{
+    match memchr(b'\n', text) {
+        Some(size) => (&text[..size], &text[size + 1..]),
+        None => (text, &text[text.len()..]),
+    }
+}
+
+fn is_digit(byte: u8) -> bool
+    ensures { result ≡ is_digit byte }
+{
+    matches!(byte, b'0'..=b'9')
+}
+
+fn all_digits(bytes: &[u8]) -> bool
+    ensures { result ≡ list_all is_digit bytes.now }
+{
+    for byte in bytes {
+        if !is_digit(*byte) {
+            return false;
+        }
+    }
+    true
+}
+
+/// Whether these are decimal digits without a needless zero in front.
+fn is_numeral(bytes: &[u8]) -> bool
+    ensures { result ≡ is_numeral bytes.now }
+{
+    match bytes {
+        [] => false,
+        [digit] => is_digit(*digit),
+        [first, ..] => all_digits(bytes) && *first != b'0',
+    }
+}
+
+/// A number with one digit more, or the largest of its type where that is above it.
+fn append_digit(number: u64, digit: u8) -> u64
+    ensures { result ≡ capped (with_digit number digit) }
+{
+    let next = 10 * u128::from(number) + u128::from(digit.saturating_sub(b'0'));
+    if next < 1 << 64 {
+        next as u64
+    } else {
+        u64::MAX
+    }
+}
+
+fn value_of(digits: &[u8]) -> u64
+    ensures { result ≡ capped (value_of digits.now) }
+{
+    let mut number = 0;
+    for digit in digits {
+        number = append_digit(number, *digit);
+    }
+    number
+}
+
+/// The number that digits spell, or the largest of its type where that is above it.
+pub(crate) fn numeral(digits: &[u8]) -> Option<u64>
+    ensures { result ≡ option_map capped (numeral digits.now) }
+{
+    if is_numeral(digits) {
+        Some(value_of(digits))
+    } else {
+        None
+    }
+}
