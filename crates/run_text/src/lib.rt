@@ -4,11 +4,13 @@
 
 mod launch;
 mod lines;
+mod names;
 mod report;
 mod rows;
 mod schedule;
+mod writer;
 
 pub use launch::{LaunchFault, LaunchFaultKind};
-pub use report::{Report, ReportEnd, RunMode};
+pub use report::{Report, ReportEnd, RunMode, print_report};
 pub use rows::{report_row, schedule_rows};
 pub use schedule::{ScheduleFault, ScheduleFaultKind, read_schedule};
