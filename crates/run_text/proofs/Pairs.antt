@@ -62,7 +62,7 @@ module _ (threads : ℕ) (few : threads < 2 ^ 32) where
       by true e = ap (λ k. pair_of threads (Some k) (Some count)) (below thread (ltb-true thread (2 ^ 64) e))
       by false e =
           let h = ltb-false thread (2 ^ 64) e in
-          ap (λ k. pair_of threads (Some k) (Some count)) (above thread h) ∙ high_thread (2 ^ 64 - 1) count (omega arith) ∙ sym (high_thread thread count (omega arith))
+          ap (λ k. pair_of threads (Some k) (Some count)) (above thread h) ∙ high_thread (2 ^ 64) count (omega arith) ∙ sym (high_thread thread count (omega arith))
 
   capped_pair : (thread count : ℕ) → pair_of threads (Some (capped thread)) (Some (capped count)) ≡ pair_of threads (Some thread) (Some count)
   capped_pair thread count = by (nat_lt count (2 ^ 64)) refl
@@ -72,7 +72,7 @@ module _ (threads : ℕ) (few : threads < 2 ^ 32) where
       by false e =
           let h = ltb-false count (2 ^ 64) e in
           let s = steps_small in
-          ap (λ k. pair_of threads (Some (capped thread)) (Some k)) (above count h) ∙ many_steps (capped thread) (2 ^ 64 - 1) (omega arith) ∙ sym (many_steps thread count (omega arith))
+          ap (λ k. pair_of threads (Some (capped thread)) (Some k)) (above count h) ∙ many_steps (capped thread) (2 ^ 64) (omega arith) ∙ sym (many_steps thread count (omega arith))
 
   pub numbers_read : (t c : ℕ) (thread count : Option ℕ) → Some t ≡ option_map capped thread → Some c ≡ option_map capped count → pair_of threads (Some t) (Some c) ≡ pair_of threads thread count
   numbers_read t c None count e f = let h : ⊥ = cc in absurd h

@@ -1,5 +1,5 @@
 //! Lines of a text, and what stands in one.
-ghost use Rattle.std.specs.Prelude.{◌≡◌, ◌<◌, ◌^◌, [], ◌∷◌, None, Some, length, option_map, MatchOption};
+ghost use Rattle.std.specs.Prelude.{◌≡◌, ◌<◌, ◌≤◌, ◌^◌, [], ◌∷◌, None, Some, length, option_map, MatchOption};
 ghost use Rattle.std.specs.List.{list_all};
 ghost use Rattle.ir_core.specs.Numbers.{value_of};
 ghost use Rattle.run_text.specs.Lines.{lines, is_digit, is_numeral, numeral};
@@ -47,19 +47,16 @@ fn is_numeral(bytes: &[u8]) -> bool
     }
 }
 
-/// A number with one digit more, or the largest of its type where that is above it.
-fn append_digit(number: u64, digit: u8) -> u64
+/// A number with one digit more, or 2^64 where that is above it.
+fn append_digit(number: u128, digit: u8) -> u128
+    requires { number ≤ 2 ^ 64 }
     ensures { result ≡ capped (with_digit number digit) }
 {
-    let next = 10 * u128::from(number) + u128::from(digit.saturating_sub(b'0'));
-    if next < 1 << 64 {
-        next as u64
-    } else {
-        u64::MAX
-    }
+    let next = 10 * number + u128::from(digit.saturating_sub(b'0'));
+    if next < 1 << 64 { next } else { 1 << 64 }
 }
 
-fn value_of(digits: &[u8]) -> u64
+fn value_of(digits: &[u8]) -> u128
     ensures { result ≡ capped (value_of digits.now) }
 {
     let mut number = 0;
@@ -69,8 +66,8 @@ fn value_of(digits: &[u8]) -> u64
     number
 }
 
-/// The number that digits spell, or the largest of its type where that is above it.
-pub(crate) fn numeral(digits: &[u8]) -> Option<u64>
+/// The number that digits spell, or 2^64 where that is above it.
+pub(crate) fn numeral(digits: &[u8]) -> Option<u128>
     ensures { result ≡ option_map capped (numeral digits.now) }
 {
     if is_numeral(digits) {

@@ -41,7 +41,7 @@ fn schedule_limit() -> usize
     33_554_432
 }
 
-fn steps_limit() -> u64
+fn steps_limit() -> u128
     ensures value { result ≡ steps_limit }
     ensures small { result < 2 ^ 31 }
 {
@@ -68,13 +68,13 @@ fn parted(line: &[u8]) -> Option<(&[u8], &[u8])>
     }
 }
 
-fn pair_of(threads: u32, thread: u64, count: u64) -> Result<Pair, ScheduleFaultKind>
+fn pair_of(threads: u32, thread: u128, count: u128) -> Result<Pair, ScheduleFaultKind>
     ensures { result ≡ pair_of threads (Some thread) (Some count) }
 {
     if count < 1 || count > steps_limit() {
         return Err(ScheduleFaultKind::LineForm);
     }
-    if thread < u64::from(threads) {
+    if thread < u128::from(threads) {
         Ok(Pair {
             thread: thread as u32,
             count: count as u32,
