@@ -2,3 +2,4 @@ pub mod ShortTexts
 pub mod LineEnds
 pub mod CappedNumbers
 pub mod Pairs
+pub mod Calls

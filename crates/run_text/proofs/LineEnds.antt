@@ -1,8 +1,10 @@
 -- Where a line ends, and where it is parted.
-use Rattle.std.proofs.Common.{◌≡◌, ℕ, zero, suc, ◌+◌, ◌-◌, ◌<◌, ◌≤◌, List, [], ◌∷◌, length, take, drop, get_or, Option, Some, None, Bool, true, false, cond, ◌==◌, refl, sym, ap, ◌∙◌, arith}
+use Rattle.std.proofs.Common.{◌≡◌, ℕ, zero, suc, ◌+◌, ◌-◌, ◌<◌, ◌≤◌, List, [], ◌∷◌, length, take, drop, get_or, Option, Some, None, MatchOption, Bool, true, false, cond, ◌==◌, refl, sym, ap, ◌∙◌, arith}
 use Rattle.std.proofs.lemmas.List.{take_rest}
+use Rattle.std.specs.Str.{bytes_eq}
+use Rattle.std.proofs.lemmas.Bool.Decides.{nat_tests}
 use Rattle.memchr.specs.Find.{IsFirstByte, is_byte}
-use Rattle.run_text.specs.Lines.{lines, with_first}
+use Rattle.run_text.specs.Lines.{lines, with_first, behind}
 use Rattle.run_text.specs.ScheduleText.{parted, onto_first}
 
 is_other : (b : Bool) → (b ≡ true → ⊥) → b ≡ false
@@ -64,3 +66,27 @@ line_parted line n h =
 
 pub line_whole : (line : List ℕ) → IsFirstByte (is_byte 32) line None → parted line ≡ None
 line_whole line none = whole line (λ k l. is_other _ (none k (omega arith) l))
+
+-- ---- what comes behind first bytes
+
+same_either_way : (a b : ℕ) → (a == b) ≡ (b == a)
+same_either_way a b = grind (arith, nat_tests)
+
+behind_cons : (c d : ℕ) (cs ds : List ℕ) → behind cs ds ≡ cond (bytes_eq (take (length cs) ds) cs) (Some (drop (length cs) ds)) None → (b : Bool) → (c == d) ≡ b → behind (c ∷ cs) (d ∷ ds) ≡ cond (bytes_eq (take (length (c ∷ cs)) (d ∷ ds)) (c ∷ cs)) (Some (drop (length (c ∷ cs)) (d ∷ ds))) None
+behind_cons c d cs ds more true e = rw (e, sym (same_either_way c d) ∙ e) more
+behind_cons c d cs ds more false e = rw (e, sym (same_either_way c d) ∙ e)
+
+behind_more : (front line : List ℕ) → behind front line ≡ cond (bytes_eq (take (length front) line) front) (Some (drop (length front) line)) None
+behind_more [] line = refl
+behind_more (c ∷ cs) [] = refl
+behind_more (c ∷ cs) (d ∷ ds) = behind_cons c d cs ds (behind_more cs ds) (c == d) refl
+
+pub not_behind : (front line : List ℕ) → bytes_eq (take (length front) line) front ≡ false → behind front line ≡ None
+not_behind front line e = behind_more front line ∙ ap (λ b. cond b (Some (drop (length front) line)) None) e
+
+pub is_behind : (front line : List ℕ) → bytes_eq (take (length front) line) front ≡ true → behind front line ≡ Some (drop (length front) line)
+is_behind front line e = behind_more front line ∙ ap (λ b. cond b (Some (drop (length front) line)) None) e
+
+pub behind_found : {X : Type 0} (bytes : X → List ℕ) (front line : List ℕ) (r : Option X) → MatchOption r (bytes_eq (take (length front) line) front ≡ false) (λ x. (bytes_eq (take (length front) line) front ≡ true) × (bytes x ≡ drop (length front) line) × (length (bytes x) + length front ≡ length line)) → MatchOption r (behind front line ≡ None) (λ x. behind front line ≡ Some (bytes x))
+behind_found bytes front line None h = not_behind front line h
+behind_found bytes front line (Some x) h = is_behind front line h.0 ∙ ap Some (sym h.1)

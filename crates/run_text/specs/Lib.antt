@@ -1,6 +1,8 @@
 pub mod Lines
 pub mod Capped
 pub mod LaunchText
+pub mod Kept
+pub mod Calls
 pub mod ScheduleText
 pub mod ReportText
 pub mod Parts

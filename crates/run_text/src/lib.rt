@@ -2,6 +2,7 @@
 //! The calls that read and print them come with the command that replays a schedule.
 #![tactic(auto)]
 
+mod kernels;
 mod launch;
 mod lines;
 mod names;
