@@ -3,3 +3,4 @@ pub mod LineEnds
 pub mod CappedNumbers
 pub mod Pairs
 pub mod Calls
+pub mod ArgumentForms

@@ -2,6 +2,7 @@ pub mod Lines
 pub mod Capped
 pub mod LaunchText
 pub mod Kept
+pub mod Forms
 pub mod Calls
 pub mod ScheduleText
 pub mod ReportText

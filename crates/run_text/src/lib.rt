@@ -2,6 +2,7 @@
 //! The calls that read and print them come with the command that replays a schedule.
 #![tactic(auto)]
 
+mod arguments;
 mod kernels;
 mod launch;
 mod lines;
