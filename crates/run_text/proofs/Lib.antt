@@ -4,3 +4,5 @@ pub mod CappedNumbers
 pub mod Pairs
 pub mod Calls
 pub mod ArgumentForms
+pub mod Launches
+pub mod Widths

@@ -1,5 +1,5 @@
 -- Pairs that are read line by line.
-use Rattle.std.proofs.Common.{◌≡◌, ℕ, ◌+◌, ◌-◌, ◌^◌, ◌<◌, ◌≤◌, List, [], ◌∷◌, ◌++◌, Option, Some, None, option_map, Result, Ok, Err, Bool, true, false, cond, nat_lt, nat_le, ◌&&◌, if◌then◌else◌, refl, sym, ap, ◌∙◌, arith}
+use Rattle.std.proofs.Common.{◌≡◌, ℕ, ◌+◌, ◌^◌, ◌<◌, ◌≤◌, List, [], ◌∷◌, ◌++◌, Option, Some, None, option_map, Result, Ok, Err, Bool, true, false, nat_lt, nat_le, ◌&&◌, if◌then◌else◌, refl, sym, ap, ◌∙◌, arith}
 use Rattle.std.proofs.lemmas.List.{append_assoc}
 use Rattle.std.proofs.lemmas.Bool.{ltb-true, ltb-false, le-ltb, le-leb, lt-leb}
 use Rattle.team_model.specs.declared.Pair.{Pair}
@@ -9,7 +9,7 @@ use Rattle.run_text.specs.declared.schedule.ScheduleFaultKind.TheVariants.{LineF
 use Rattle.run_text.specs.declared.schedule.ScheduleFault.{ScheduleFault}
 use Rattle.run_text.specs.Capped.{capped}
 use Rattle.run_text.proofs.CappedNumbers.{below, above}
-use Rattle.run_text.specs.Lines.{Line, lines, numbered, numeral}
+use Rattle.run_text.specs.Lines.{lines, numbered}
 use Rattle.run_text.specs.ScheduleText.{parted, pair_of, pair_in, pairs_in, and_more, fault_at}
 
 -- values before those that are read of the rest

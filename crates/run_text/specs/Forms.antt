@@ -4,6 +4,8 @@ use Rattle.ir_core.specs.declared.types.Ty.{Ty}
 use Rattle.ir_core.specs.declared.types.Ty.TheVariants.{Int}
 use Rattle.run_text.specs.declared.arguments.Form.{Form}
 use Rattle.run_text.specs.declared.arguments.Form.TheVariants.{Zeros as HeldZeros, Bytes as HeldBytes, Null, Number}
+use Rattle.run_text.specs.declared.launch.LaunchFaultKind.{LaunchFaultKind}
+use Rattle.run_text.specs.declared.launch.LaunchFaultKind.TheVariants.{LineForm, ArgumentCount}
 use Rattle.run_text.specs.Capped.{capped}
 use Rattle.run_text.specs.Lines.{behind, numeral, hex_bytes}
 use Rattle.run_text.specs.LaunchText.{ArgForm, Zeros, Bytes, NullForm, NumberForm, positive, some_bytes}
@@ -46,3 +48,8 @@ and_byte byte (Some bytes) = Some (byte ∷ bytes)
 pub record IsNextByte (digits : List ℕ) (byte : ℕ) (rest : List ℕ) : Type 0 where
   pub is : hex_bytes digits ≡ and_byte byte (hex_bytes rest)
   pub fewer : length rest < length digits
+
+-- a held form on a line that is one too many
+abbrev pub held_surplus : Option Form → LaunchFaultKind
+held_surplus None = LineForm
+held_surplus (Some form) = ArgumentCount

@@ -3,6 +3,7 @@ pub mod Capped
 pub mod LaunchText
 pub mod Kept
 pub mod Forms
+pub mod Stages
 pub mod Calls
 pub mod ScheduleText
 pub mod ReportText

@@ -1,14 +1,14 @@
 //! Arguments of a launch.
-ghost use Rattle.std.specs.Prelude.{◌≡◌, ◌<◌, ◌≤◌, ◌^◌, Some, length, option_map, option_and_then, replicate, IfOk, IfSome, MatchOption, None, true};
+ghost use Rattle.std.specs.Prelude.{◌≡◌, ◌<◌, ◌≤◌, ◌-◌, ◌^◌, Some, length, option_map, option_and_then, replicate, IfOk, IfSome, MatchOption, None, true};
 ghost use Rattle.ir_core.specs.Numbers.{fits, modulo};
 ghost use Rattle.ir_core.specs.declared.types.Ty.TheVariants.{Int as IntTy};
 ghost use Rattle.mem_model.specs.Memory.{block_limit};
 ghost use Rattle.mem_model.specs.Launching.{buffer_size};
 ghost use Rattle.run_text.specs.Lines.{behind, numeral, hex_value, hex_bytes};
-ghost use Rattle.run_text.specs.LaunchText.{NumberForm, arg_form, arg_for, number_form, positive, sized, surplus};
+ghost use Rattle.run_text.specs.LaunchText.{NumberForm, arg_form, arg_for, number_form, positive, sized, formed_arg, surplus};
 ghost use Rattle.run_text.specs.Capped.{capped};
 ghost use Rattle.run_text.specs.Replies.{Answers};
-ghost use Rattle.run_text.specs.Forms.{HasWidth, held, spelled, pair_byte, IsNextByte, zeros_text, bytes_text};
+ghost use Rattle.run_text.specs.Forms.{HasWidth, held, held_surplus, spelled, pair_byte, IsNextByte, zeros_text, bytes_text};
 
 use crate::launch::LaunchFaultKind;
 use crate::lines::{behind, numeral};
@@ -259,5 +259,55 @@ pub(crate) fn arg_for(
             },
         ) => int_arg(*width, *is_negative, *magnitude),
         _ => Err(Or::Refused(LaunchFaultKind::ArgumentForm)),
+    }
+}
+
+/// The argument that a line spells for a parameter of this type, where so many bytes are left for all buffers.
+pub(crate) fn read_arg(
+    alloc: Global,
+    left: u32,
+    ty: &Ty,
+    line: &[u8],
+) -> Result<Arg, Or<LaunchFaultKind>>
+    requires { HasWidth ty.now }
+    ensures { Answers (formed_arg left ty.now (arg_form line.now)) result }
+{
+    match read_form(alloc, line)? {
+        Some(form) => arg_for(alloc, left, ty, &form),
+        None => Err(Or::Refused(LaunchFaultKind::LineForm)),
+    }
+}
+
+fn surplus_of(form: &Option<Form>) -> LaunchFaultKind
+    ensures { result ≡ held_surplus form.now }
+{
+    match form {
+        Some(_) => LaunchFaultKind::ArgumentCount,
+        None => LaunchFaultKind::LineForm,
+    }
+}
+
+/// What is wrong with an argument line that is one too many.
+pub(crate) fn surplus(alloc: Global, line: &[u8]) -> Result<LaunchFaultKind, OutOfMemory>
+    ensures { IfOk result (λ k. k ≡ surplus (arg_form line.now)) }
+{
+    let form = read_form(alloc, line)?;
+    Ok(surplus_of(&form))
+}
+
+/// How many bytes are left for all buffers behind an argument.
+pub(crate) fn left_behind(left: u32, arg: &Arg) -> u32
+    ensures { result ≡ left - buffer_size arg.now }
+{
+    match arg {
+        Arg::Buffer(bytes) => {
+            let size = bytes.as_slice().len();
+            if size < left as usize {
+                left - size as u32
+            } else {
+                0
+            }
+        }
+        _ => left,
     }
 }

@@ -12,7 +12,7 @@ mod rows;
 mod schedule;
 mod writer;
 
-pub use launch::{LaunchFault, LaunchFaultKind};
+pub use launch::{LaunchFault, LaunchFaultKind, read_launch};
 pub use report::{Report, ReportEnd, RunMode, print_report};
 pub use rows::{report_row, schedule_rows};
 pub use schedule::{ScheduleFault, ScheduleFaultKind, read_schedule};

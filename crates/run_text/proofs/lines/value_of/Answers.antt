@@ -1,7 +1,5 @@
-use Rattle.std.proofs.Common.{◌≡◌, ◌<◌, ◌≤◌, ◌^◌, length, get_or, sym, ap, ◌∙◌, arith}
-use Rattle.ir_core.specs.Numbers.{value_from}
-use Rattle.run_text.specs.Capped.{capped, with_digit}
-use Rattle.run_text.proofs.CappedNumbers.{below, next_capped, all_capped, in_cap}
+use Rattle.std.proofs.Common.{◌<◌, length, arith}
+use Rattle.run_text.proofs.CappedNumbers.{next_capped, all_capped}
 use Rattle.run_text.proofs.lines.value_of.Goals as goal
 
 pub loop-digit-preserved : goal.loop-digit-preserved
