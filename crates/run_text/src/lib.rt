@@ -1,5 +1,6 @@
-//! The texts of a run as definitions: which launch of a module and which schedule a text spells, and the text of a report.
-//! The calls that read and print them come with the command that replays a schedule.
+//! The texts of a run: reads the launch of a module and a schedule from their texts, and prints a report.
+//!
+//! `specs/` says which launch and which schedule a text spells, or which is its first fault, and what a report's text is.
 #![tactic(auto)]
 
 mod arguments;
@@ -10,6 +11,8 @@ mod names;
 mod report;
 mod rows;
 mod schedule;
+#[cfg(test)]
+mod tests;
 mod writer;
 
 pub use launch::{LaunchFault, LaunchFaultKind, read_launch};
