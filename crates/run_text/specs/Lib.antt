@@ -1,6 +1,12 @@
 pub mod Lines
+pub mod Capped
 pub mod LaunchText
+pub mod Kept
+pub mod Forms
+pub mod Stages
+pub mod Calls
 pub mod ScheduleText
 pub mod ReportText
+pub mod Parts
 pub mod Replies
 pub mod Rows

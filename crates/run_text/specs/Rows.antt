@@ -1,12 +1,10 @@
 -- Short texts, and what they spell.
-use Rattle.std.specs.Prelude.{◌≡◌, ℕ, List, [], ◌∷◌, ◌++◌, codes, Result, Ok, Err}
+use Rattle.std.specs.Prelude.{◌≡◌, ℕ, List, [], ◌∷◌, codes, Ok, Err}
 use Rattle.ir_core.specs.Grammar.{of_functions}
 use Rattle.mem_model.specs.declared.memory.BlockName.TheVariants.{Arg}
 use Rattle.mem_model.specs.declared.memory.Byte.TheVariants.{Num}
-use Rattle.mem_model.specs.declared.launch.Shown.{Shown}
 use Rattle.team_model.specs.declared.Pair.{Pair}
 use Rattle.run_text.specs.declared.schedule.ScheduleFaultKind.TheVariants.{LineForm, ThreadRange}
-use Rattle.run_text.specs.declared.schedule.ScheduleFault.{ScheduleFault}
 use Rattle.run_text.specs.declared.report.RunMode.TheVariants.{Empty}
 use Rattle.run_text.specs.declared.report.ReportEnd.TheVariants.{Ended}
 use Rattle.run_text.specs.declared.report.Report.{Report}

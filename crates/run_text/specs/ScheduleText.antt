@@ -1,5 +1,5 @@
 -- Which pairs of a thread and its steps a text spells, or its first fault.
-use Rattle.std.specs.Prelude.{ℕ, List, [], ◌∷◌, length, Option, Some, None, Result, Ok, Err, Bool, ◌&&◌, ◌==◌, nat_lt, nat_le, if◌then◌else◌}
+use Rattle.std.specs.Prelude.{ℕ, List, [], ◌∷◌, length, Option, Some, None, Result, Ok, Err, ◌&&◌, ◌==◌, nat_lt, nat_le, if◌then◌else◌}
 use Rattle.mem_model.specs.Launching.{steps_limit}
 use Rattle.team_model.specs.declared.Pair.{Pair}
 use Rattle.run_text.specs.declared.schedule.ScheduleFaultKind.{ScheduleFaultKind}

@@ -1,13 +1,21 @@
-//! The texts of a run as definitions: which launch of a module and which schedule a text spells, and the text of a report.
-//! The calls that read and print them come with the command that replays a schedule.
+//! The texts of a run: reads the launch of a module and a schedule from their texts, and prints a report.
+//!
+//! `specs/` says which launch and which schedule a text spells, or which is its first fault, and what a report's text is.
 #![tactic(auto)]
 
+mod arguments;
+mod kernels;
 mod launch;
+mod lines;
+mod names;
 mod report;
 mod rows;
 mod schedule;
+#[cfg(test)]
+mod tests;
+mod writer;
 
-pub use launch::{LaunchFault, LaunchFaultKind};
-pub use report::{Report, ReportEnd, RunMode};
+pub use launch::{LaunchFault, LaunchFaultKind, read_launch};
+pub use report::{Report, ReportEnd, RunMode, print_report};
 pub use rows::{report_row, schedule_rows};
-pub use schedule::{ScheduleFault, ScheduleFaultKind};
+pub use schedule::{ScheduleFault, ScheduleFaultKind, read_schedule};
