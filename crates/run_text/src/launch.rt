@@ -1,5 +1,5 @@
 //! The text of a launch.
-ghost use Rattle.std.specs.Prelude.{◌≡◌, ◌<◌, ◌+◌, ◌^◌, Ok as IsOk, Err as IsErr, codes, length, option_and_then, MatchResult};
+ghost use Rattle.std.specs.Prelude.{◌≡◌, ◌<◌, ◌+◌, ◌^◌, Ok as OkOf, Err as ErrOf, codes, length, option_and_then, MatchResult};
 ghost use Rattle.ir_core.specs.FirstForm.{HasFirstForm};
 ghost use Rattle.mem_model.specs.Launching.{threads_limit, steps_limit, buffers_limit};
 ghost use Rattle.run_text.specs.Lines.{behind, numeral, lines};
@@ -99,7 +99,7 @@ fn read_kernel<'m>(
     m: &'m Module,
     line: &[u8],
 ) -> Result<&'m Function, Or<LaunchFaultKind>>
-    ensures { MatchResult result (λ f. kernel_line m.now line.now ≡ IsOk f.now) (λ e. Told (kernel_line m.now line.now) e) }
+    ensures { MatchResult result (λ f. kernel_line m.now line.now ≡ OkOf f.now) (λ e. Told (kernel_line m.now line.now) e) }
 {
     let Some(name) = behind(b"kernel ".as_slice(), line) else {
         return Err(Or::Refused(LaunchFaultKind::LineForm));
