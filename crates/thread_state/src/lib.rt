@@ -2,6 +2,7 @@
 //! What a state means is `thread_seen` of `specs/Seen.antt`.
 #![tactic(auto)]
 
+mod registers;
 mod state;
 
 pub use state::{Answers, Frame, StackBlock, ThreadState};
