@@ -3,6 +3,7 @@
 #![tactic(auto)]
 
 mod registers;
+mod stack;
 mod state;
 
 pub use state::{Answers, Frame, StackBlock, ThreadState};
