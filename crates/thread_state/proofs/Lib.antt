@@ -1,0 +1,4 @@
+pub mod Assigned
+pub mod Frames
+pub mod Held
+pub mod Stacks

@@ -37,7 +37,7 @@ abbrev pub code_seen : Module → List FrameData → FrameData → Code
 code_seen m outer f = record { at = place_seen f; registers = registers_seen (register_names m f.function) f.registers; back = back_seen m outer }
 
 abbrev pub block_seen : ℕ → StackBlock → Spot × List Byte
-block_seen own b = ((own, b.number), b.bytes)
+block_seen own b = ((own, b.number), b.bytes.items)
 
 -- the blocks from a call's base on to the end, the newest first
 abbrev pub blocks_seen : ℕ → List StackBlock → ℕ → ℕ → List (Spot × List Byte)
@@ -52,7 +52,7 @@ abbrev pub answers_seen : AnswersData → Answers
 answers_seen a = record { init = a.init; number = a.number; count = a.count; level = a.level; spmd = a.spmd }
 
 abbrev pub thread_seen : Module → ThreadData → ThreadState
-thread_seen m s = record { own = s.own; counter = s.counter; frames = frames_seen m s.own s.stack (length s.stack) (reverse s.frames); answers = answers_seen s.answers }
+thread_seen m s = record { own = s.own; counter = s.counter; frames = frames_seen m s.own s.stack.items (length s.stack.items) (reverse s.frames.items); answers = answers_seen s.answers }
 
 -- ---- the states that stand for one
 
@@ -67,4 +67,4 @@ AreBlocks low [] = Unit {0}
 AreBlocks low (b ∷ bs) = (low ≤ b.number) × AreBlocks (b.number + 1) bs
 
 abbrev pub IsThread : Module → ThreadData → Type 0
-IsThread m s = AreFrames m (length s.stack) (reverse s.frames) × AreBlocks 0 s.stack × ((i : ℕ) (b : StackBlock) → slice_get s.stack i ≡ Some b → b.number < s.counter)
+IsThread m s = AreFrames m (length s.stack.items) (reverse s.frames.items) × AreBlocks 0 s.stack.items × ((i : ℕ) (b : StackBlock) → slice_get s.stack.items i ≡ Some b → b.number < s.counter)

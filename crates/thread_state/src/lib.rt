@@ -2,6 +2,8 @@
 //! What a state means is `thread_seen` of `specs/Seen.antt`.
 #![tactic(auto)]
 
+mod registers;
+mod stack;
 mod state;
 
 pub use state::{Answers, Frame, StackBlock, ThreadState};

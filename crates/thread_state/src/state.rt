@@ -22,7 +22,7 @@ pub struct Answers {
 #[derive(Drop)]
 pub struct StackBlock {
     pub number: u64,
-    pub bytes: List<Byte>,
+    pub bytes: Vec<Byte>,
 }
 
 /// A call that has not returned.
@@ -48,8 +48,8 @@ pub struct ThreadState {
     /// How many blocks of its stack it has made.
     pub counter: u64,
     /// The outermost call first.
-    pub frames: List<Frame>,
+    pub frames: Vec<Frame>,
     /// The blocks of its stack, by rising number.
-    pub stack: List<StackBlock>,
+    pub stack: Vec<StackBlock>,
     pub answers: Answers,
 }

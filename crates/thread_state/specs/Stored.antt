@@ -1,0 +1,24 @@
+-- What loads and stores in a thread's own stack make of its state.
+use Rattle.std.specs.Prelude.{◌≡◌, ℕ, List, slice_get, Option, Some, None, Result, Ok, Err, IsOk}
+use Rattle.ir_core.specs.declared.module.Module.{Module}
+use Rattle.mem_model.specs.declared.memory.Byte.{Byte}
+use Rattle.mem_model.specs.declared.step.Trap.{Trap}
+use Rattle.mem_model.specs.Thread.{find_in, put_in}
+use Rattle.mem_model.specs.Next.{with_frames}
+use Rattle.thread_state.specs.declared.state.StackBlock.{StackBlock}
+use Rattle.thread_state.specs.declared.state.ThreadState.{ThreadState as ThreadData}
+use Rattle.thread_state.specs.Seen.{thread_seen, IsThread}
+
+-- the place of the block of a number; none where no block has it
+abbrev pub IsBlockPlace : List StackBlock → ℕ → Option ℕ → Type 0
+IsBlockPlace stack number (Some at) = (b : StackBlock) × (slice_get stack at ≡ Some b) × (b.number ≡ number)
+IsBlockPlace stack number None = (at : ℕ) (b : StackBlock) → slice_get stack at ≡ Some b → b.number ≡ number → ⊥
+
+-- the bytes of the block of a number in the calls that have not returned
+abbrev pub own_block : Module → ThreadData → ℕ → Option (List Byte)
+own_block m s number = find_in (thread_seen m s).frames (s.own, number)
+
+-- the state with the bytes that were to come in a block, or the trap and the state as it was
+abbrev pub IsStored : {U : Type 0} → Result (List Byte) Trap → Module → ℕ → ThreadData → ThreadData → Result U Trap → Type 0
+IsStored (Err trap) m number old new result = (result ≡ Err trap) × (new ≡ old)
+IsStored (Ok bytes) m number old new result = IsOk result × IsThread m new × (thread_seen m new ≡ with_frames (thread_seen m old) (put_in (old.own, number) bytes (thread_seen m old).frames))

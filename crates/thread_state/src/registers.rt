@@ -1,0 +1,83 @@
+//! The registers of the innermost call, and the place where it stands. In a state without calls nothing is found, and nothing
+//! changes.
+ghost use Rattle.std.specs.Prelude.{◌≡◌, ℕ, ◌+◌, ◌<◌, ◌^◌, Option};
+ghost use Rattle.ir_core.specs.declared.module.Module.{Module};
+ghost use Rattle.ir_core.specs.Places.{Name, place_in};
+ghost use Rattle.mem_model.specs.Next.{code_on, code_past};
+ghost use Rattle.thread_state.specs.Seen.{value_at, thread_seen, IsThread};
+ghost use Rattle.thread_state.specs.Moves.{first_registers, names_of, index_of, Moves, IsPlaceOf, with_register, code_at, frame_assigned, frame_past, frame_at};
+
+use crate::state::{Frame, ThreadState};
+use mem_model::Word;
+
+impl Frame {
+    /// The value of the register at a place; none where it isn't assigned, or there is no such place.
+    fn value(&self, register: Option<usize>) -> Option<Word>
+        ensures { result ≡ value_at self.now.registers register }
+    {
+        match self.registers.get(register?) {
+            None => None,
+            Some(value) => *value,
+        }
+    }
+
+    /// Gives the register at a place a value, where there is such a place.
+    fn assign(&mut self, register: Option<usize>, word: Word)
+        ensures { self.new ≡ frame_assigned self.old register word }
+    {
+        if let Some(at) = register {
+            if at < self.registers.len() {
+                self.registers.set(at, Some(word));
+            }
+        }
+    }
+}
+
+impl ThreadState {
+    /// The value of a register of the innermost call, by its place among the function's registers; none where it isn't assigned.
+    pub fn value(&self, register: Option<usize>) -> Option<Word>
+        ensures { (m : Module) (x : Name) → place_in (names_of m self.now) x ≡ register → result ≡ first_registers (thread_seen m self.now).frames x }
+    {
+        self.frames.last()?.value(register)
+    }
+
+    /// Gives a register of the innermost call a value, by its place; none is for a result without a register.
+    pub fn assign(&mut self, register: Option<usize>, word: Word)
+        ensures { (m : Module) (x : Option Name) → IsThread m self.old → IsPlaceOf (names_of m self.old) x register → Moves (with_register x word) m self.old self.new }
+    {
+        if let Some(frame) = self.frames.last_mut() {
+            frame.assign(register, word);
+        }
+    }
+
+    /// Goes behind an instruction, with its result.
+    pub fn go_on(&mut self, register: Option<usize>, word: Word)
+        requires { index_of self.old + 1 < 2 ^ 64 }
+        ensures { (m : Module) (x : Option Name) → IsThread m self.old → IsPlaceOf (names_of m self.old) x register → Moves (λ c. code_on c x word) m self.old self.new }
+    {
+        if let Some(frame) = self.frames.last_mut() {
+            frame.assign(register, word);
+            frame.index += 1;
+        }
+    }
+
+    /// Goes behind an instruction without a result.
+    pub fn go_past(&mut self)
+        requires { index_of self.old + 1 < 2 ^ 64 }
+        ensures { (m : Module) → IsThread m self.old → Moves code_past m self.old self.new }
+    {
+        if let Some(frame) = self.frames.last_mut() {
+            frame.index += 1;
+        }
+    }
+
+    /// Goes to a place in a block of the same function.
+    pub fn jump(&mut self, block: usize, index: usize)
+        ensures { (m : Module) → IsThread m self.old → Moves (code_at block index) m self.old self.new }
+    {
+        if let Some(frame) = self.frames.last_mut() {
+            frame.block = block;
+            frame.index = index;
+        }
+    }
+}

@@ -1,0 +1,103 @@
+//! The blocks of a thread's own stack, which loads and stores find by their numbers.
+ghost use Rattle.std.specs.Prelude.{◌≡◌, ℕ, ◌+◌, ◌<◌, ◌≤◌, Some, Ok, length, IfSome, IfOk};
+ghost use Rattle.ir_core.specs.declared.module.Module.{Module};
+ghost use Rattle.mem_model.specs.Words as words;
+ghost use Rattle.mem_model.specs.Memory.{inside};
+ghost use Rattle.mem_model.specs.Answers.{IsCell, IsOf};
+ghost use Rattle.mem_model.specs.Thread.{load_own, store_own, spliced};
+ghost use Rattle.thread_state.specs.Seen.{AreBlocks, IsThread};
+ghost use Rattle.thread_state.specs.Stored.{IsBlockPlace, own_block, IsStored};
+
+use crate::state::{StackBlock, ThreadState};
+use mem_model::{Cell, Trap, Word, cell_size, place_in, read_word, write_word};
+
+/// The place of the block of a number in a stack whose numbers rise; none where no block has it.
+fn block_place(stack: &[StackBlock], number: u64) -> Option<usize>
+    ensures within { IfSome result (λ at. at < length stack.now) }
+    ensures place { (least : ℕ) → AreBlocks least stack.now → IsBlockPlace stack.now number result }
+{
+    let mut low = 0;
+    let mut high = stack.len();
+    while low < high {
+        let middle = low + (high - low) / 2;
+        let found = stack[middle].number;
+        if found == number {
+            return Some(middle);
+        }
+        if found < number {
+            low = middle + 1;
+        } else {
+            high = middle;
+        }
+    }
+    None
+}
+
+impl StackBlock {
+    /// The word of a cell at an offset.
+    fn load(&self, offset: i64, cell: Cell) -> Result<Word, Trap>
+        requires { IsCell cell }
+        ensures { result ≡ load_own (Some self.now.bytes.items) offset cell }
+    {
+        let size = cell_size(cell);
+        let start = place_in(self.bytes.len(), offset, size)?;
+        read_word(&self.bytes[start..start + size], cell)
+    }
+
+    /// Where a cell at an offset begins.
+    fn cell_place(&self, offset: i64, cell: Cell) -> Result<usize, Trap>
+        ensures place { result ≡ inside (length self.now.bytes.items) offset (words.cell_size cell) }
+        ensures within { IfOk result (λ start. start + words.cell_size cell ≤ length self.now.bytes.items) }
+    {
+        place_in(self.bytes.len(), offset, cell_size(cell))
+    }
+
+    /// Writes a word as the bytes of a cell from a place on.
+    fn write(&mut self, start: usize, cell: Cell, word: Word)
+        requires cell { IsCell cell }
+        requires word { IsOf cell word }
+        requires room { start + words.cell_size cell ≤ length self.old.bytes.items }
+        ensures number { self.new.number ≡ self.old.number }
+        ensures bytes { spliced self.old.bytes.items (words.word_bytes cell word) (Ok start) ≡ Ok self.new.bytes.items }
+    {
+        let size = cell_size(cell);
+        write_word(&mut self.bytes[start..start + size], cell, word);
+    }
+}
+
+impl ThreadState {
+    /// The word of a cell in the block of a number of the thread's own stack.
+    ///
+    /// # Errors
+    ///
+    /// The first of these tests that fails: `NoBlock` where no call that has not returned has such a block; `OutOfBlock` where
+    /// the bytes don't lie whole in the block; `NotNumber` where they hold no word of the cell.
+    pub fn load(&self, number: u64, offset: i64, cell: Cell) -> Result<Word, Trap>
+        requires { IsCell cell }
+        ensures { (m : Module) → IsThread m self.now → result ≡ load_own (own_block m self.now number) offset cell }
+    {
+        match block_place(self.stack.as_slice(), number) {
+            Some(at) => self.stack[at].load(offset, cell),
+            None => Err(Trap::NoBlock),
+        }
+    }
+
+    /// Stores a word of a cell's kind in the block of a number of the thread's own stack.
+    ///
+    /// # Errors
+    ///
+    /// The first of these tests that fails, and then nothing changes: `NoBlock` where no call that has not returned has such a
+    /// block; `OutOfBlock` where the bytes don't lie whole in the block.
+    pub fn store(&mut self, number: u64, offset: i64, cell: Cell, word: Word) -> Result<(), Trap>
+        requires cell { IsCell cell }
+        requires word { IsOf cell word }
+        ensures { (m : Module) → IsThread m self.old → IsStored (store_own (own_block m self.old number) offset cell word) m number self.old self.new result }
+    {
+        let Some(at) = block_place(self.stack.as_slice(), number) else {
+            return Err(Trap::NoBlock);
+        };
+        let start = self.stack[at].cell_place(offset, cell)?;
+        self.stack[at].write(start, cell, word);
+        Ok(())
+    }
+}
