@@ -19,3 +19,5 @@ pub mod Notes
 pub mod ReadsBack
 pub mod Wrappers
 pub mod Places
+pub mod Formed
+pub mod TextRefusals

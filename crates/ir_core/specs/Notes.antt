@@ -37,6 +37,36 @@ construct_text ModeIntrinsic = codes "mode_intrinsic"
 construct_text ConstantExpression = codes "constant_expression"
 construct_text NotBuilt = codes "not_built"
 
+-- of refusals on one line the one with the least number is told
+abbrev pub construct_number : Construct → ℕ
+construct_number Syntax = 1
+construct_number DuplicateName = 2
+construct_number MissingName = 3
+construct_number TypeMismatch = 4
+construct_number FloatType = 5
+construct_number VectorType = 6
+construct_number WideInteger = 7
+construct_number AddressSpace = 8
+construct_number UndefValue = 9
+construct_number AggregateValue = 10
+construct_number VolatileAccess = 11
+construct_number InlineAsm = 12
+construct_number IndirectCall = 13
+construct_number UnknownCallee = 14
+construct_number Invoke = 15
+construct_number PointerOrder = 16
+construct_number MetadataOperand = 17
+construct_number Signature = 18
+construct_number KernelShape = 19
+construct_number SpmdInput = 20
+construct_number WrapperShape = 21
+construct_number ClauseArgument = 22
+construct_number NestedParallel = 23
+construct_number Limit = 24
+construct_number ModeIntrinsic = 25
+construct_number ConstantExpression = 26
+construct_number NotBuilt = 27
+
 -- without its line end
 abbrev pub refusal_text : Refusal → List ℕ
 refusal_text r = codes "ompopt: refused: " ++ construct_text r.construct ++ codes " at line " ++ decimal r.line
