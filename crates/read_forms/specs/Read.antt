@@ -4,6 +4,7 @@ use Rattle.std.specs.Str.{bytes_eq}
 use Rattle.ir_core.specs.declared.answers.Or.{Or}
 use Rattle.ir_core.specs.declared.answers.Or.TheVariants.{Refused, Memory}
 use Rattle.ir_core.specs.Tokens.{Lexeme, TokenKind, Word, Local, Global, Label, Mark}
+use Rattle.ir_core.specs.Escapes.{stem_name}
 use Rattle.ir_core.specs.Spell.{Items, AtEnd, OneMore}
 
 -- a value and the rest, or how many tokens were left at the one that stopped the reading
@@ -100,13 +101,13 @@ is_mark m (Mark n) = n == m
 is_mark m _ = false
 
 abbrev pub as_local : Lexeme → Option (List ℕ)
-as_local t = if is_local t.kind then Some (drop 1 t.bytes) else None
+as_local t = if is_local t.kind then Some (stem_name (drop 1 t.bytes)) else None
 
 abbrev pub as_global : Lexeme → Option (List ℕ)
-as_global t = if is_global t.kind then Some (drop 1 t.bytes) else None
+as_global t = if is_global t.kind then Some (stem_name (drop 1 t.bytes)) else None
 
 abbrev pub as_label : Lexeme → Option (List ℕ)
-as_label t = if is_label t.kind then Some (take (length t.bytes - 1) t.bytes) else None
+as_label t = if is_label t.kind then Some (stem_name (take (length t.bytes - 1) t.bytes)) else None
 
 abbrev pub as_mark : ℕ → Lexeme → Option ℕ
 as_mark m t = if is_mark m t.kind then Some t.line else None

@@ -1,6 +1,6 @@
 use Rattle.std.proofs.Common.{◌≡◌, length}
-use Rattle.ir_read.specs.Read.{more_at}
-use Rattle.ir_read.proofs.repeated.read_more.Given as goal
+use Rattle.read_forms.specs.Read.{more_at}
+use Rattle.read_forms.proofs.repeated.read_more.Given as goal
 
 abbrev pub invariant-loop-alloc : goal.invariant-loop-alloc
 invariant-loop-alloc g l = more_at g.T.Part.reading l.fn.before l.fn.ahead ≡ more_at g.T.Part.reading l.out l.rest

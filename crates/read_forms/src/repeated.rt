@@ -1,31 +1,38 @@
 //! Parts that stand any number of times in a row.
 ghost use Rattle.std.specs.Prelude.{◌≡◌, [], ◌∷◌, None, false, Bool, Option};
 ghost use Rattle.ir_core.specs.Tokens.{Lexeme};
-ghost use Rattle.ir_read.specs.Read.{Read, Gives, Shrinks, head, many_at, after_comma_at, more_at, list_at, at_mark};
+ghost use Rattle.read_forms.specs.Read.{Read, Gives, Shrinks, head, many_at, after_comma_at, more_at, list_at, at_mark};
 
 use crate::ahead::Ahead;
 use crate::tokens::{Reading, expect_mark};
 use ir_core::{List, Or};
 use std::alloc::Global;
 
-/// What can be read by itself.
-pub(crate) trait Part: Drop + Sized {
-    ghost reading: { Read Self };
+/// A part of a module's text that can be read by itself. The type names the part, and has no values.
+pub trait Part {
+    /// What the part spells.
+    type Item: Drop;
 
-    fn read<'a>(alloc: Global, ahead: Ahead<'a>) -> Reading<'a, Self>
+    /// The part's reading function.
+    ghost reading: { Read Self.Item };
+
+    /// Reads the part.
+    fn read<'a>(alloc: Global, ahead: Ahead<'a>) -> Reading<'a, Self::Item>
         ensures { Gives result (reading ahead.entry) };
 }
 
-/// What can be told from its first token.
-pub(crate) trait Repeated: Part {
+/// A part that can be told from its first token.
+pub trait Repeated: Part {
+    /// Whether the part begins with this token.
     ghost goes: { Option Lexeme → Bool };
 
+    /// Whether the part stands next.
     fn begins(ahead: &Ahead) -> bool
         ensures { result ≡ goes (head ahead.now) };
 }
 
 /// As many as begin, one after another.
-pub(crate) fn read_many<'a, T: Repeated>(alloc: Global, ahead: Ahead<'a>) -> Reading<'a, List<T>>
+pub fn read_many<'a, T: Repeated>(alloc: Global, ahead: Ahead<'a>) -> Reading<'a, List<T::Item>>
     requires ends { T.goes None ≡ false }
     requires shrinks { Shrinks T.reading }
     ensures { Gives result (many_at T.goes T.reading ahead.entry) }
@@ -51,7 +58,7 @@ fn is_at_mark(ahead: &Ahead, mark: u8) -> bool
 
 /// `, x`.
 #[tactic(auto, unfolding(crate::specs::Read::after_comma_at))]
-fn read_after_comma<'a, T: Part>(alloc: Global, ahead: Ahead<'a>) -> Reading<'a, T>
+fn read_after_comma<'a, T: Part>(alloc: Global, ahead: Ahead<'a>) -> Reading<'a, T::Item>
     ensures { Gives result (after_comma_at T.reading ahead.entry) }
 {
     let (_, rest) = expect_mark(ahead, b',')?;
@@ -59,14 +66,18 @@ fn read_after_comma<'a, T: Part>(alloc: Global, ahead: Ahead<'a>) -> Reading<'a,
 }
 
 /// As many as stand behind commas, after those that were read before.
-fn read_more<'a, T: Part>(alloc: Global, before: List<T>, ahead: Ahead<'a>) -> Reading<'a, List<T>>
+fn read_more<'a, T: Part>(
+    alloc: Global,
+    before: List<T::Item>,
+    ahead: Ahead<'a>,
+) -> Reading<'a, List<T::Item>>
     requires { Shrinks T.reading }
     ensures { Gives result (more_at T.reading before ahead.entry) }
 {
     let mut out = before;
     let mut rest = ahead;
     while is_at_mark(&rest, b',') {
-        let (item, after) = read_after_comma(alloc, rest)?;
+        let (item, after) = read_after_comma::<T>(alloc, rest)?;
         out.push(item)?;
         rest = after;
     }
@@ -75,11 +86,11 @@ fn read_more<'a, T: Part>(alloc: Global, before: List<T>, ahead: Ahead<'a>) -> R
 
 /// `x, ..` and the closing mark.
 #[tactic(auto, unfolding(crate::specs::Read::items_at))]
-pub(crate) fn read_list<'a, T: Part>(
+pub fn read_list<'a, T: Part>(
     alloc: Global,
     ahead: Ahead<'a>,
     close: u8,
-) -> Reading<'a, List<T>>
+) -> Reading<'a, List<T::Item>>
     requires { Shrinks T.reading }
     ensures { Gives result (list_at close T.reading ahead.entry) }
 {
@@ -90,7 +101,7 @@ pub(crate) fn read_list<'a, T: Part>(
     }
     let (first, rest) = T::read(alloc, ahead)?;
     out.push(first)?;
-    let (out, rest) = read_more(alloc, out, rest)?;
+    let (out, rest) = read_more::<T>(alloc, out, rest)?;
     let (_, rest) = expect_mark(rest, close)?;
     Ok((out, rest))
 }

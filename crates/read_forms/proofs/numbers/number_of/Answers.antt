@@ -1,8 +1,8 @@
 use Rattle.std.proofs.Common.{◌≡◌, ◌<◌, length, get_or, None, sym, ◌∙◌, arith}
 use Rattle.ir_core.specs.Numbers.{value_of}
-use Rattle.ir_read.specs.Widths.{in_word, with_digit}
-use Rattle.ir_read.proofs.Digits.{digits_fail}
-use Rattle.ir_read.proofs.numbers.number_of.Goals as goal
+use Rattle.read_forms.specs.Widths.{in_word, with_digit}
+use Rattle.read_forms.proofs.Digits.{digits_fail}
+use Rattle.read_forms.proofs.numbers.number_of.Goals as goal
 
 pub returns-in_err-number : goal.returns-in_err-number
 returns-in_err-number c =

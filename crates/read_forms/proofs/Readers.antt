@@ -3,7 +3,7 @@ use Rattle.std.proofs.Common.{◌≡◌, ℕ, List, [], ◌∷◌, ◌++◌, len
 use Rattle.ir_core.specs.Tokens.{Lexeme}
 use Rattle.ir_core.specs.Spell.{SameNext, any}
 use Rattle.ir_core.specs.Spell as G
-use Rattle.ir_read.specs.Read.{Read, then_read, ◌>>=◌, done, made, one_at, head, by_form, pick}
+use Rattle.read_forms.specs.Read.{Read, then_read, ◌>>=◌, done, made, one_at, head, by_form, pick}
 
 -- the tokens read spell the value, and any rest that goes on with the same token is left as it is
 pub record Taken {X : Type 0} (f : Read X) (S : List Lexeme → X → Type 0) (ts : List Lexeme) (x : X) (rest : List Lexeme) : Type 0 where

@@ -3,8 +3,8 @@ use Rattle.std.proofs.Common.{◌≡◌, ℕ, List, [], ◌∷◌, ◌++◌, len
 use Rattle.std.proofs.lemmas.List.{append-nil}
 use Rattle.ir_core.specs.Tokens.{Lexeme}
 use Rattle.ir_core.specs.Spell.{SameNext, IsFirstRefused}
-use Rattle.ir_read.specs.Read.{Read, then_read, to_end, whole}
-use Rattle.ir_read.proofs.Readers.{Reads, ok_parts, ok_not_err, err_is}
+use Rattle.read_forms.specs.Read.{Read, then_read, to_end, whole}
+use Rattle.read_forms.proofs.Readers.{Reads, ok_parts, ok_not_err, err_is}
 
 -- ---- to the end
 module _ {X : Type 0} (f : Read X) (S : List Lexeme → X → Type 0) (F : List Lexeme → Type 0) (r : Reads f S F) (ends : F []) where

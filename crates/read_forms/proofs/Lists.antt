@@ -5,10 +5,10 @@ use Rattle.std.proofs.lemmas.Bool.Decides.{Decides-eqb}
 use Rattle.ir_core.specs.Tokens.{Lexeme}
 use Rattle.ir_core.specs.Spell.{IsMark, Items, AtEnd, OneMore, items, after_comma, list_to, many}
 use Rattle.ir_core.specs.Spell as spell
-use Rattle.ir_read.specs.Read.{Read, Shrinks, made, then_read, ◌>>=◌, done, one_at, many_at, put_all, more_at, as_mark, is_mark, at_mark, after_comma_at, items_at, items_form, list_at}
-use Rattle.ir_read.proofs.Readers.{ok_not_err, Reads, Free, Begins, one_reads, done_reads, then_reads, pick_reads, one_begins, then_begins}
-use Rattle.ir_read.proofs.Many.{Stops, many_reads, many_then_reads}
-use Rattle.ir_read.proofs.TokenTests.{mark_tests}
+use Rattle.read_forms.specs.Read.{Read, Shrinks, made, then_read, ◌>>=◌, done, one_at, many_at, put_all, more_at, as_mark, is_mark, at_mark, after_comma_at, items_at, items_form, list_at}
+use Rattle.read_forms.proofs.Readers.{ok_not_err, Reads, Free, Begins, one_reads, done_reads, then_reads, pick_reads, one_begins, then_begins}
+use Rattle.read_forms.proofs.Many.{Stops, many_reads, many_then_reads}
+use Rattle.read_forms.proofs.TokenTests.{mark_tests}
 
 pub mark_reads : (m : ℕ) → Reads (one_at (as_mark m)) (spell.mark m) Free
 mark_reads m = one_reads _ _ (mark_tests m)

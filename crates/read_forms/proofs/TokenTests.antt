@@ -5,9 +5,10 @@ use Rattle.std.proofs.lemmas.Slice.Eq.{bytes_eq-Decides}
 use Rattle.std.proofs.lemmas.Bool.Decides.{Decides-eqb}
 use Rattle.ir_core.specs.Tokens.{Lexeme, TokenKind, Word, Local, Global, Label, Mark}
 use Rattle.ir_core.specs.Spell.{InTable, IsWordIn, IsWord, IsMark, with_line}
-use Rattle.ir_core.specs.Grammar.{IsLocal, IsGlobal, IsLabel}
-use Rattle.ir_read.specs.Read.{is_word, is_local, is_global, is_label, is_mark, as_local, as_global, as_label, as_mark, spells_word, as_word, look_up, as_table, lined, with_line_of}
-use Rattle.ir_read.proofs.Readers.{Tests}
+use Rattle.ir_core.specs.Escapes.{stem_name}
+use Rattle.ir_core.specs.Forms.{IsLocal, IsGlobal, IsLabel}
+use Rattle.read_forms.specs.Read.{is_word, is_local, is_global, is_label, is_mark, as_local, as_global, as_label, as_mark, spells_word, as_word, look_up, as_table, lined, with_line_of}
+use Rattle.read_forms.proofs.Readers.{Tests}
 
 pub chosen : {A : Type 0} (b : Bool) (x y z : A) → cond b x y ≡ z → ((b ≡ true) × (x ≡ z)) ⊎ ((b ≡ false) × (y ≡ z))
 chosen true x y z e = inl (refl, e)
@@ -69,23 +70,23 @@ look_only (a ∷ es) x v d (inr i) = elim (chosen (fresh a.0 es) _ _ _ d) [
 ]
 
 -- ---- kinds
-word_kind : (k : TokenKind) → is_word k ≡ true → k ≡ Word
+pub word_kind : (k : TokenKind) → is_word k ≡ true → k ≡ Word
 word_kind Word e = refl
 word_kind _ e = absurd (let f : false ≡ true = e in cc)
 
-local_kind : (k : TokenKind) → is_local k ≡ true → k ≡ Local
+pub local_kind : (k : TokenKind) → is_local k ≡ true → k ≡ Local
 local_kind Local e = refl
 local_kind _ e = absurd (let f : false ≡ true = e in cc)
 
-global_kind : (k : TokenKind) → is_global k ≡ true → k ≡ Global
+pub global_kind : (k : TokenKind) → is_global k ≡ true → k ≡ Global
 global_kind Global e = refl
 global_kind _ e = absurd (let f : false ≡ true = e in cc)
 
-label_kind : (k : TokenKind) → is_label k ≡ true → k ≡ Label
+pub label_kind : (k : TokenKind) → is_label k ≡ true → k ≡ Label
 label_kind Label e = refl
 label_kind _ e = absurd (let f : false ≡ true = e in cc)
 
-mark_kind : (m : ℕ) (k : TokenKind) → is_mark m k ≡ true → k ≡ Mark m
+pub mark_kind : (m : ℕ) (k : TokenKind) → is_mark m k ≡ true → k ≡ Mark m
 mark_kind m (Mark n) e = ap Mark ((Decides-eqb n m).0 e)
 mark_kind m _ e = absurd (let f : false ≡ true = e in cc)
 
@@ -104,13 +105,13 @@ module _ {X : Type 0} (test : TokenKind → Bool) (kind : TokenKind) (exact : (k
   kind_tests = record { found = kind_found; only = kind_only; some = sample; value = get sample; holds = (refl, refl) }
 
 pub local_tests : Tests as_local IsLocal
-local_tests = kind_tests is_local Local local_kind refl (λ t. drop 1 t.bytes)
+local_tests = kind_tests is_local Local local_kind refl (λ t. stem_name (drop 1 t.bytes))
 
 pub global_tests : Tests as_global IsGlobal
-global_tests = kind_tests is_global Global global_kind refl (λ t. drop 1 t.bytes)
+global_tests = kind_tests is_global Global global_kind refl (λ t. stem_name (drop 1 t.bytes))
 
 pub label_tests : Tests as_label IsLabel
-label_tests = kind_tests is_label Label label_kind refl (λ t. take (length t.bytes - 1) t.bytes)
+label_tests = kind_tests is_label Label label_kind refl (λ t. stem_name (take (length t.bytes - 1) t.bytes))
 
 pub mark_tests : (m : ℕ) → Tests (as_mark m) (IsMark m)
 mark_tests m = kind_tests (is_mark m) (Mark m) (mark_kind m) ((Decides-eqb m m).1 refl) (λ t. t.line)

@@ -1,8 +1,8 @@
 //! Numbers, as they are written and as they are kept.
 ghost use Rattle.std.specs.Prelude.{◌≡◌, ◌≤◌, ◌^◌, true};
 ghost use Rattle.ir_core.specs.Numbers.{fits, modulo, value_of};
-ghost use Rattle.ir_read.specs.Reading.{as_number};
-ghost use Rattle.ir_read.specs.Widths.{HasWidth, in_word, kept_as, with_digit};
+ghost use Rattle.read_forms.specs.Operands.{as_number};
+ghost use Rattle.read_forms.specs.Widths.{HasWidth, in_word, kept_as, with_digit};
 
 use ir_core::{Ty, Value};
 
@@ -84,7 +84,7 @@ fn number_of(digits: &[u8]) -> Option<u64>
 }
 
 /// The operand that a number is at a type.
-pub(crate) fn number_value(ty: &Ty, bytes: &[u8]) -> Option<Value>
+pub fn number_value(ty: &Ty, bytes: &[u8]) -> Option<Value>
     requires { HasWidth ty.now }
     ensures { result ≡ as_number ty.now bytes.now }
 {

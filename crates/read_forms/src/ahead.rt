@@ -2,14 +2,14 @@
 ghost use Rattle.std.specs.Prelude.{◌≡◌, ◌+◌, ◌-◌, [], ◌∷◌, length, take, drop, Option, MatchOption, IsTrue};
 ghost use Rattle.ir_core.specs.Tokens.{lexemes};
 ghost use Rattle.ir_lex.specs.Seen.{kind_seen, tokens_seen};
-ghost use Rattle.ir_read.specs.Read.{head, is_word, is_local, is_global, is_label, is_mark, at_mark, spells_word};
+ghost use Rattle.read_forms.specs.Read.{head, is_word, is_local, is_global, is_label, is_mark, at_mark, spells_word};
 
 use ir_lex::{Token, TokenKind};
 use std::marker::Model;
 
 /// A token with its bytes. Contracts see it as the grammar does.
 #[derive(Drop)]
-pub(crate) struct Lexeme<'a> {
+pub struct Lexeme<'a> {
     kind: TokenKind,
     bytes: &'a [u8],
     line: u32,
@@ -26,7 +26,7 @@ impl<'a> Model for Lexeme<'a> {
 
 /// The tokens that are still to be read. Contracts see them as the grammar does.
 #[derive(Drop)]
-pub(crate) struct Ahead<'a> {
+pub struct Ahead<'a> {
     text: &'a [u8],
     tokens: &'a [Token],
 }
@@ -42,49 +42,49 @@ impl<'a> Model for Ahead<'a> {
 }
 
 impl<'a> Lexeme<'a> {
-    pub(crate) fn kind(&self) -> TokenKind
+    pub fn kind(&self) -> TokenKind
         ensures { kind_seen result ≡ self.now.kind }
     {
         self.kind
     }
 
-    pub(crate) fn bytes(&self) -> &'a [u8]
+    pub fn bytes(&self) -> &'a [u8]
         ensures { result.now ≡ self.now.bytes }
     {
         self.bytes
     }
 
-    pub(crate) fn line(&self) -> u32
+    pub fn line(&self) -> u32
         ensures { result ≡ self.now.line }
     {
         self.line
     }
 
-    pub(crate) fn is_word(&self) -> bool
+    pub fn is_word(&self) -> bool
         ensures { result ≡ is_word self.now.kind }
     {
         matches!(self.kind, TokenKind::Word)
     }
 
-    pub(crate) fn is_local(&self) -> bool
+    pub fn is_local(&self) -> bool
         ensures { result ≡ is_local self.now.kind }
     {
         matches!(self.kind, TokenKind::Local)
     }
 
-    pub(crate) fn is_global(&self) -> bool
+    pub fn is_global(&self) -> bool
         ensures { result ≡ is_global self.now.kind }
     {
         matches!(self.kind, TokenKind::Global)
     }
 
-    pub(crate) fn is_label(&self) -> bool
+    pub fn is_label(&self) -> bool
         ensures { result ≡ is_label self.now.kind }
     {
         matches!(self.kind, TokenKind::Label)
     }
 
-    pub(crate) fn is_mark(&self, mark: u8) -> bool
+    pub fn is_mark(&self, mark: u8) -> bool
         ensures { result ≡ is_mark mark self.now.kind }
     {
         match self.kind {
@@ -94,14 +94,14 @@ impl<'a> Lexeme<'a> {
     }
 
     /// Whether it is this word.
-    pub(crate) fn spells(&self, word: &[u8]) -> bool
+    pub fn spells(&self, word: &[u8]) -> bool
         ensures { result ≡ spells_word word.now self.now }
     {
         self.is_word() && self.bytes == word
     }
 
     /// The name behind a `%` or `@`.
-    pub(crate) fn name(&self) -> &'a [u8]
+    pub fn name(&self) -> &'a [u8]
         ensures { result.now ≡ drop 1 self.now.bytes }
     {
         let bytes = self.bytes;
@@ -109,7 +109,7 @@ impl<'a> Lexeme<'a> {
     }
 
     /// The name before a `:`.
-    pub(crate) fn label_name(&self) -> &'a [u8]
+    pub fn label_name(&self) -> &'a [u8]
         ensures { result.now ≡ take (length self.now.bytes - 1) self.now.bytes }
     {
         let bytes = self.bytes;
@@ -136,21 +136,21 @@ fn part(text: &[u8], start: u32, end: u32) -> &[u8]
 
 impl<'a> Ahead<'a> {
     /// All tokens of the text.
-    pub(crate) fn new(text: &'a [u8], tokens: &'a [Token]) -> Ahead<'a>
+    pub fn new(text: &'a [u8], tokens: &'a [Token]) -> Ahead<'a>
         ensures { result ≡ lexemes text.now (tokens_seen tokens.now) }
     {
         Ahead { text, tokens }
     }
 
     /// How many tokens are left.
-    pub(crate) fn left(&self) -> usize
+    pub fn left(&self) -> usize
         ensures { result ≡ length self.now }
     {
         self.tokens.len()
     }
 
     /// The next token.
-    pub(crate) fn first(&self) -> Option<Lexeme<'a>>
+    pub fn first(&self) -> Option<Lexeme<'a>>
         ensures { result ≡ head self.now }
     {
         match self.tokens {
@@ -164,7 +164,7 @@ impl<'a> Ahead<'a> {
     }
 
     /// The next token, and those behind it.
-    pub(crate) fn split(self) -> Option<(Lexeme<'a>, Ahead<'a>)>
+    pub fn split(self) -> Option<(Lexeme<'a>, Ahead<'a>)>
         ensures { MatchOption result (self.entry ≡ []) (λ p. self.entry ≡ p.0 ∷ p.1) }
     {
         let token = self.first()?;

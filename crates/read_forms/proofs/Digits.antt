@@ -2,7 +2,7 @@
 use Rattle.std.proofs.Common.{◌≡◌, ℕ, suc, ◌<◌, ◌≤◌, ◌^◌, List, [], ◌∷◌, length, drop, get_or, Option, Some, None, Bool, true, false, cond, nat_lt, refl, sym, ap, ◌∙◌, arith, drop-cons}
 use Rattle.std.proofs.lemmas.Bool.Decides.{nat_tests}
 use Rattle.ir_core.specs.Numbers.{value_from}
-use Rattle.ir_read.specs.Widths.{in_word, with_digit}
+use Rattle.read_forms.specs.Widths.{in_word, with_digit}
 
 -- more digits spell no smaller number
 grows : (n : ℕ) (cs : List ℕ) → n ≤ value_from n cs

@@ -6,8 +6,8 @@ use Rattle.ir_core.specs.declared.answers.Or.TheVariants.{Refused, Memory}
 use Rattle.ir_core.specs.Tokens.{Lexeme}
 use Rattle.ir_core.specs.Spell.{SameNext, many}
 use Rattle.ir_core.specs.Spell as G
-use Rattle.ir_read.specs.Read.{Read, then_read, ◌>>=◌, head, turn, turns, many_at, put_all, Shrinks, Fails}
-use Rattle.ir_read.proofs.Readers.{Taken, Halted, Reads, Free, same_front, same_head, ok_parts, ok_not_err, err_is, Begins, then_reads_where, reads_before}
+use Rattle.read_forms.specs.Read.{Read, then_read, ◌>>=◌, head, turn, turns, many_at, put_all, Shrinks, Fails}
+use Rattle.read_forms.proofs.Readers.{Taken, Halted, Reads, Free, same_front, same_head, ok_parts, ok_not_err, err_is, Begins, then_reads_where, reads_before}
 
 -- ---- one after another
 abbrev pub Stops : (Option Lexeme → Bool) → List Lexeme → Type 0

@@ -1,9 +1,9 @@
 use Rattle.std.proofs.Common.{◌≡◌, true, false, refl}
 use Rattle.std.proofs.lemmas.Result.{err_from_is_err_and}
-use Rattle.ir_read.specs.Read.{head, at_mark, after_comma_at, more_at}
-use Rattle.ir_read.proofs.Many.{loop_fails, loop_more, loop_ends}
-use Rattle.ir_read.proofs.Lists.{after_comma_shrinks}
-use Rattle.ir_read.proofs.repeated.read_more.Goals as goal
+use Rattle.read_forms.specs.Read.{head, at_mark, after_comma_at, more_at}
+use Rattle.read_forms.proofs.Many.{loop_fails, loop_more, loop_ends}
+use Rattle.read_forms.proofs.Lists.{after_comma_shrinks}
+use Rattle.read_forms.proofs.repeated.read_more.Goals as goal
 
 pub returns-in_err-item : goal.returns-in_err-item
 returns-in_err-item g c =

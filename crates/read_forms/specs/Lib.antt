@@ -1,0 +1,4 @@
+pub mod Read
+pub mod Widths
+pub mod Operands
+pub mod Unescaped
