@@ -21,3 +21,6 @@ pub mod Wrappers
 pub mod Places
 pub mod Formed
 pub mod TextRefusals
+pub mod Given
+pub mod Typing
+pub mod NameRefusals

@@ -1,5 +1,5 @@
 -- Which text is refused while it is read, for what, and at which line.
-use Rattle.std.specs.Prelude.{◌≡◌, ◌≢◌, ◌≤◌, ◌-◌, ℕ, List, [], ◌∷◌, ◌++◌, length, take, drop, codes, Contains, ◌⊎◌, Bool, true, not, ◌&&◌}
+use Rattle.std.specs.Prelude.{◌≡◌, ◌≢◌, ◌≤◌, ◌-◌, ℕ, List, [], ◌∷◌, ◌++◌, length, take, drop, codes, ◌⊎◌, Bool, true, not, ◌&&◌}
 use Rattle.std.specs.List.{list_all}
 use Rattle.std.specs.Str.{bytes_eq}
 use Rattle.ir_core.specs.declared.types.Ty.{Ty}
@@ -10,6 +10,7 @@ use Rattle.ir_core.specs.declared.refusal.Refusal.{Refusal}
 use Rattle.ir_core.specs.Bytes.{digit_byte}
 use Rattle.ir_core.specs.Numbers.{begins_with, magnitude}
 use Rattle.ir_core.specs.Tokens.{Lexeme, Token, Word, Number, Float, Meta, Mark, Past, Lexes, lexemes, line_at, text_limit}
+use Rattle.ir_core.specs.EntryPoints.{is_among}
 use Rattle.ir_core.specs.Notes.{construct_number}
 use Rattle.ir_core.specs.Spell.{InTable, IsFirstRefused}
 use Rattle.ir_core.specs.Forms.{integer_types}
@@ -83,7 +84,7 @@ SpaceStands front = Begins (front ++ a_number (codes "0") ∷ []) × (Begins (fr
 -- ---- what a refused token is refused for
 
 abbrev pub IsWordAmong : List (List ℕ) → Lexeme → Type 0
-IsWordAmong words t = (t.kind ≡ Word) × Contains words t.bytes
+IsWordAmong words t = (t.kind ≡ Word) × (is_among words t.bytes ≡ true)
 
 -- an integer of a width that there is not
 abbrev pub NamesWideInteger : Lexeme → Type 0
