@@ -254,11 +254,9 @@ comdat_word = do
   w ← word (codes "comdat")
   done tt
 
--- @N = WORDS global|constant T [INIT] [, section ".."] [, comdat] [, align A]
-abbrev pub global : Spell GlobalItem
-global = do
-  name ← one (with_line IsItemName)
-  equals ← mark 61
+-- WORDS global|constant T [INIT] [, section ".."] [, comdat] [, align A], behind a name and the = behind it
+abbrev pub global_of : List ℕ × ℕ → Spell GlobalItem
+global_of name = do
   words ← kept_words
   constant ← one (IsWordIn constness)
   ty ← type_
@@ -267,6 +265,13 @@ global = do
   shared ← maybe tt (next comdat_word)
   align ← next_alignment
   done (record { name = name.0; words = words; constant = constant; ty = ty; init = init; align = align; line = name.1 })
+
+-- @N = ..
+abbrev pub global : Spell GlobalItem
+global = do
+  name ← one (with_line IsItemName)
+  equals ← mark 61
+  global_of name
 
 -- %N = type T
 abbrev pub type_def : Spell TypeDef
