@@ -1,5 +1,2 @@
-pub mod NameTests
-pub mod Values
-pub mod Numbered
-pub mod Laws
-pub mod Texts
+pub mod Begun
+pub mod Tried

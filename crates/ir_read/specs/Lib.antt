@@ -1,4 +1,2 @@
-pub mod Names
-pub mod Reading
-pub mod Forms
+pub mod Probes
 pub mod Refused

@@ -1,14 +1,6 @@
-//! Reads a module's text.
+//! Reads a module's text, or says what it is refused for.
 #![tactic(auto)]
 
-mod forms;
-mod functions;
-mod instructions;
+mod fits;
 mod module;
-mod names;
-mod operands;
-#[cfg(test)]
-mod tests;
-mod types;
-
-pub use module::{one_module, read_module};
+mod stopped;
