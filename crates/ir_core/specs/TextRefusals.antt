@@ -1,18 +1,15 @@
 -- Which text is refused while it is read, for what, and at which line.
-use Rattle.std.specs.Prelude.{◌≡◌, ◌≢◌, ◌≤◌, ◌-◌, ℕ, List, [], ◌∷◌, ◌++◌, length, take, drop, codes, ◌⊎◌, Bool, true, not, ◌&&◌}
-use Rattle.std.specs.List.{list_all}
-use Rattle.std.specs.Str.{bytes_eq}
-use Rattle.ir_core.specs.declared.types.Ty.{Ty}
+use Rattle.std.specs.Prelude.{◌≡◌, ◌≢◌, ◌≤◌, ◌-◌, ℕ, List, [], ◌∷◌, ◌++◌, length, map, take, drop, codes, ◌⊎◌, Bool, true, not, ◌&&◌}
 use Rattle.ir_core.specs.declared.module.Module.{Module}
 use Rattle.ir_core.specs.declared.refusal.Construct.{Construct}
 use Rattle.ir_core.specs.declared.refusal.Construct.TheVariants.{Syntax, FloatType, VectorType, WideInteger, AddressSpace, UndefValue, AggregateValue, VolatileAccess, InlineAsm, Invoke, MetadataOperand, Limit, ConstantExpression}
 use Rattle.ir_core.specs.declared.refusal.Refusal.{Refusal}
-use Rattle.ir_core.specs.Bytes.{digit_byte}
 use Rattle.ir_core.specs.Numbers.{begins_with, magnitude}
 use Rattle.ir_core.specs.Tokens.{Lexeme, Token, Word, Number, Float, Meta, Mark, Past, Lexes, lexemes, line_at, text_limit}
 use Rattle.ir_core.specs.EntryPoints.{is_among}
 use Rattle.ir_core.specs.Notes.{construct_number}
-use Rattle.ir_core.specs.Spell.{InTable, IsFirstRefused}
+use Rattle.ir_core.specs.Spell.{IsFirstRefused}
+use Rattle.ir_core.specs.Text.{is_digits}
 use Rattle.ir_core.specs.Forms.{integer_types}
 use Rattle.ir_core.specs.Language.{module_to_end}
 
@@ -47,7 +44,7 @@ instruction_words =
 
 -- i and digits
 abbrev pub names_integer : List ℕ → Bool
-names_integer bytes = begins_with 105 bytes && not (bytes_eq bytes (codes "i")) && list_all digit_byte (drop 1 bytes)
+names_integer bytes = begins_with 105 bytes && is_digits (drop 1 bytes)
 
 -- ---- what stands at a place, said by what the tokens before it go on with
 
@@ -87,8 +84,11 @@ abbrev pub IsWordAmong : List (List ℕ) → Lexeme → Type 0
 IsWordAmong words t = (t.kind ≡ Word) × (is_among words t.bytes ≡ true)
 
 -- an integer of a width that there is not
+abbrev pub names_wide_integer : List ℕ → Bool
+names_wide_integer bytes = names_integer bytes && not (is_among (map (λ e. e.0) integer_types) bytes)
+
 abbrev pub NamesWideInteger : Lexeme → Type 0
-NamesWideInteger t = (t.kind ≡ Word) × (names_integer t.bytes ≡ true) × ((ty : Ty) → InTable integer_types t.bytes ty → ⊥)
+NamesWideInteger t = (t.kind ≡ Word) × (names_wide_integer t.bytes ≡ true)
 
 abbrev pub IsOpening : Lexeme → Type 0
 IsOpening t = (t.kind ≡ Mark 91) ⊎ (t.kind ≡ Mark 123)

@@ -31,4 +31,4 @@ pub use remark::{Mode, Remark};
 pub use rtl::Rtl;
 pub use sqlite_items::{Boxed, Items as List};
 pub use types::Ty;
-pub use words::is_word;
+pub use words::{is_digits, is_word};

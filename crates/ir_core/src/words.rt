@@ -38,7 +38,7 @@ fn all_digits(bytes: &[u8]) -> bool
 }
 
 /// Whether these are digits, and at least one.
-fn is_digits(bytes: &[u8]) -> bool
+pub fn is_digits(bytes: &[u8]) -> bool
     ensures { result ≡ is_digits bytes.now }
 {
     !bytes.is_empty() && all_digits(bytes)
