@@ -1,2 +1,4 @@
 pub mod Begun
+pub mod Digits
+pub mod Least
 pub mod Tried

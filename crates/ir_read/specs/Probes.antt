@@ -1,7 +1,9 @@
 -- Tokens that are tried behind those before a refused one, to tell what can stand there.
-use Rattle.std.specs.Prelude.{◌≡◌, ℕ, ◌<◌, ◌≤◌, ◌-◌, ◌^◌, List, ◌++◌, length, map, take, codes, Bool, true, false, All}
+use Rattle.std.specs.Prelude.{◌≡◌, ℕ, ◌<◌, ◌≤◌, ◌-◌, ◌^◌, List, [], ◌∷◌, ◌++◌, nat_lt, if◌then◌else◌, length, map, take, codes, Bool, true, false, All}
 use Rattle.std.specs.Borrow.{Bor}
 use Rattle.ir_core.specs.Tokens.{Lexeme}
+use Rattle.ir_core.specs.declared.refusal.Construct.{Construct}
+use Rattle.ir_core.specs.declared.refusal.Construct.TheVariants.{FloatType, VectorType, WideInteger, AddressSpace, UndefValue, AggregateValue, VolatileAccess, InlineAsm, Invoke, MetadataOperand, Limit, ConstantExpression}
 use Rattle.ir_core.specs.TextRefusals.{a_word, a_number}
 use Rattle.ir_lex.specs.declared.token.Token.{Token}
 use Rattle.ir_read.specs.declared.stopped.Probe.{Probe}
@@ -39,3 +41,11 @@ AreWithin text ts = All (λ t. t.end ≤ length text) ts
 -- the words that a list of slices has
 abbrev pub words_seen : List (Bor (List ℕ)) → List (List ℕ)
 words_seen words = map (λ (w : Bor (List ℕ)). w.now) words
+
+abbrev pub has_digit_above_zero : List ℕ → Bool
+has_digit_above_zero [] = false
+has_digit_above_zero (c ∷ cs) = if nat_lt 48 c then true else has_digit_above_zero cs
+
+-- the constructs beside syntax, in the order of their numbers
+abbrev pub constructs : List Construct
+constructs = FloatType ∷ VectorType ∷ WideInteger ∷ AddressSpace ∷ UndefValue ∷ AggregateValue ∷ VolatileAccess ∷ InlineAsm ∷ Invoke ∷ MetadataOperand ∷ Limit ∷ ConstantExpression ∷ []
