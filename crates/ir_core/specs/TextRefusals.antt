@@ -130,4 +130,4 @@ pub record IsTextRefusal (text : List ℕ) (r : Refusal) : Type 0 where
   pub lexes : Lexes text tokens
   pub left : ℕ
   pub first : IsFirstRefused module_to_end (lexemes (take text_limit text) tokens) left
-  pub told : IsRefusalAt text first.front first.rest r
+  pub told : IsRefusalAt (take text_limit text) first.front first.rest r

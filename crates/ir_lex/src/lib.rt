@@ -13,20 +13,22 @@ mod scan;
 mod tests;
 mod token;
 
-ghost use Rattle.std.specs.Prelude.{List as SpecList, ℕ, ◌≡◌, take, IfOk};
+ghost use Rattle.std.specs.Prelude.{List as SpecList, ℕ, ◌≡◌, ◌<◌, ◌^◌, length, take, IfOk};
 ghost use Rattle.ir_core.specs.Tokens as meaning;
 ghost use Rattle.ir_core.specs.Tokens.{Lexes, text_limit};
 ghost use Rattle.ir_lex.specs.Seen.{tokens_seen};
 
 use ir_core::{List, OutOfMemory};
 use limit::{front, text_limit, with_past};
+pub use place::line_ends;
 use read::read_all;
 use std::alloc::Global;
 pub use token::{Token, TokenKind};
 
 /// The bytes of the text that are looked at: all of them, or the first 4,194,304.
 pub fn looked_at(text: &[u8]) -> &[u8]
-    ensures { result.now ≡ take text_limit text.now }
+    ensures value { result.now ≡ take text_limit text.now }
+    ensures short { length result.now < 2 ^ 30 }
 {
     front(text, text_limit() as usize)
 }

@@ -57,7 +57,7 @@ pub fn token_at(text: &[u8], place: Place) -> Piece
 }
 
 /// How many line ends there are.
-fn line_ends(bytes: &[u8]) -> u32
+pub fn line_ends(bytes: &[u8]) -> u32
     requires { length bytes.now < 2 ^ 31 }
     ensures value { result ≡ line_ends bytes.now }
     ensures within { result ≤ length bytes.now }
