@@ -1,4 +1,6 @@
 pub mod Begun
 pub mod Digits
+pub mod Ends
 pub mod Least
+pub mod Split
 pub mod Tried

@@ -4,3 +4,5 @@
 mod fits;
 mod module;
 mod stopped;
+
+pub use module::read_module;
