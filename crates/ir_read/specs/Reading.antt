@@ -18,7 +18,7 @@ use Rattle.ir_core.specs.Tokens.{Lexeme, TokenKind, Word, Local, Global, Number}
 use Rattle.ir_core.specs.Grammar.{scalar_types, result_types, no_flags, predicates, ValueForm, Binary, Compare, LoadForm, CallForm, value_words, PlainForm, Assigns, Stores, Calls, plain_words, BranchForm, Straight, Tested, LastForm, Branches, Returns, last_words, numbered, FunctionForm, Defines, Declares, function_words, of_functions}
 use Rattle.read_forms.specs.Operands.{as_number}
 use Rattle.ir_read.specs.Names.{as_local, as_global, as_label}
-use Rattle.read_forms.specs.Read.{Read, ◌>>=◌, done, one_at, pick, goes, many_at, whole, list_at, as_mark, as_word, as_table, with_line_of, look_up, spells_word, is_local, is_label}
+use Rattle.read_forms.specs.Read.{form_in, Read, ◌>>=◌, done, one_at, pick, goes, many_at, whole, list_at, as_mark, as_word, as_table, with_line_of, look_up, spells_word, is_local, is_label}
 
 -- ---- types
 
@@ -188,10 +188,6 @@ return_at = do
 abbrev pub last_at_form : LastForm → Read Inst
 last_at_form Branches = last_branch_at
 last_at_form Returns = return_at
-
-abbrev pub form_in : {K : Type 0} → List (List ℕ × K) → Option Lexeme → Option K
-form_in table Absent = Absent
-form_in table (Present t) = as_table table t
 
 abbrev pub last_at : Read Inst
 last_at = pick (form_in last_words) last_at_form
