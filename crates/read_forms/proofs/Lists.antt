@@ -1,28 +1,39 @@
 -- Lists between marks.
-use Rattle.std.proofs.Common.{◌≡◌, ℕ, List, [], ◌∷◌, Option, Some, Bool, true, false, cond, Result, Ok, Err, refl, sym, ap, ◌∙◌, subst, length, ◌<◌, None, arith}
+use Rattle.std.proofs.Common.{◌≡◌, ℕ, List, [], ◌∷◌, ◌++◌, Option, Some, Bool, true, false, cond, Result, Ok, Err, refl, sym, ap, ◌∙◌, subst, length, ◌<◌, None, arith}
 use Rattle.std.specs.Prelude.{◌==◌}
 use Rattle.std.proofs.lemmas.Bool.Decides.{Decides-eqb}
-use Rattle.ir_core.specs.Tokens.{Lexeme}
+use Rattle.ir_core.specs.Tokens.{Lexeme, Mark}
 use Rattle.ir_core.specs.Spell.{IsMark, Items, AtEnd, OneMore, items, after_comma, list_to, many}
 use Rattle.ir_core.specs.Spell as spell
-use Rattle.read_forms.specs.Read.{Read, Shrinks, made, then_read, ◌>>=◌, done, one_at, many_at, put_all, more_at, as_mark, is_mark, at_mark, after_comma_at, items_at, items_form, list_at}
-use Rattle.read_forms.proofs.Readers.{ok_not_err, Reads, Free, Begins, one_reads, done_reads, then_reads, pick_reads, one_begins, then_begins}
-use Rattle.read_forms.proofs.Many.{Stops, many_reads, many_then_reads}
-use Rattle.read_forms.proofs.TokenTests.{mark_tests}
+use Rattle.read_forms.specs.Read.{Read, Shrinks, head, made, then_read, ◌>>=◌, done, one_at, many_at, put_all, more_at, as_mark, is_mark, at_mark, after_comma_at, items_at, items_form, list_at}
+use Rattle.read_forms.proofs.Readers.{ok_not_err, Reads, Free, Begins, one_reads, done_reads, then_reads, then_reads_where, reads_before, pick_reads, one_begins, then_begins}
+use Rattle.read_forms.proofs.Many.{Stops, many_begins, many_reads_where, many_then_reads}
+use Rattle.read_forms.proofs.TokenTests.{mark_kind, mark_tests}
 
 pub mark_reads : (m : ℕ) → Reads (one_at (as_mark m)) (spell.mark m) Free
 mark_reads m = one_reads _ _ (mark_tests m)
 
-module _ {X : Type 0} (f : Read X) (S : List Lexeme → X → Type 0) (r : Reads f S Free) where
-  pub after_comma_reads : Reads (after_comma_at f) (after_comma S) Free
+-- a mark is none of what q holds of
+abbrev pub NotMarks : (Option Lexeme → Bool) → Type 0
+NotMarks q = (m : ℕ) (t : Lexeme) → t.kind ≡ Mark m → q (Some t) ≡ false
+
+module _ {X : Type 0} (f : Read X) (S : List Lexeme → X → Type 0) (q : Option Lexeme → Bool) (marks : NotMarks q) (r : Reads f S (Stops q)) where
+  pub after_comma_reads : Reads (after_comma_at f) (after_comma S) (Stops q)
   unfolding after_comma_at
   after_comma_reads = then_reads (mark_reads 44) (λ comma. r)
 
   pub after_comma_begins : Begins (after_comma S) (λ t. at_mark 44 (Some t) ≡ true)
   after_comma_begins = then_begins _ _ _ (one_begins _ _ (λ t line h. ap (is_mark 44) h.0))
 
-  more_reads : Reads (many_at (at_mark 44) (after_comma_at f)) (many (after_comma S)) (Stops (at_mark 44))
-  more_reads = many_reads (at_mark 44) (after_comma_at f) (after_comma S) after_comma_reads after_comma_begins refl
+  abbrev Ends : List Lexeme → Type 0
+  Ends ts = Stops (at_mark 44) ts × Stops q ts
+
+  comma_follows : (ts : List Lexeme) → at_mark 44 (head ts) ≡ true → Stops q ts
+  comma_follows [] e = let k : false ≡ true = e in absurd (cc)
+  comma_follows (t ∷ ts) e = marks 44 t (mark_kind 44 t.kind e)
+
+  pub more_reads : Reads (many_at (at_mark 44) (after_comma_at f)) (many (after_comma S)) Ends
+  more_reads = many_reads_where (at_mark 44) (after_comma_at f) (after_comma S) (Stops q) after_comma_reads after_comma_begins refl comma_follows
 
   module _ (close : ℕ) (other : (close == 44) ≡ false) (b : Begins S (λ t. is_mark close t.kind ≡ false)) where
     -- as in the grammar
@@ -40,28 +51,50 @@ module _ {X : Type 0} (f : Read X) (S : List Lexeme → X → Type 0) (r : Reads
     unfolding by_grammar by_loop
     same_reading x = λ i ts. same_by x (many_at (at_mark 44) (after_comma_at f) ts) i
 
-    grammar_reads : (x : X) → Reads (by_grammar x) (spell.◌>>=◌ (many (after_comma S)) (λ xs. spell.◌>>=◌ (spell.mark close) (λ end. spell.done (x ∷ xs)))) Free
+    abbrev closing : List X → List Lexeme → List X → Type 0
+    closing xs = spell.◌>>=◌ (spell.mark close) (λ end. spell.done xs)
+
+    closing_begins : (xs : List X) → Begins (closing xs) (λ t. t.kind ≡ Mark close)
+    closing_begins xs = then_begins _ _ _ (one_begins _ _ (λ t line h. h.0))
+
+    closes : (xs : List X) (front rest : List Lexeme) (ys : List X) → closing xs front ys → Ends (front ++ rest)
+    closes xs front rest ys s =
+        let u = closing_begins xs front ys s in (
+          ap (λ (l : List Lexeme). at_mark 44 (head (l ++ rest))) u.3 ∙ ap (is_mark 44) u.2 ∙ other,
+          ap (λ (l : List Lexeme). q (head (l ++ rest))) u.3 ∙ marks close u.0 u.2,
+        )
+
+    grammar_reads : (x : X) → Reads (by_grammar x) (spell.◌>>=◌ (many (after_comma S)) (λ xs. closing (x ∷ xs))) Free
     unfolding by_grammar
     grammar_reads x =
-        many_then_reads (at_mark 44) more_reads (λ xs.
+        then_reads_where _ _ Ends _ _ Free more_reads (λ xs.
         then_reads (mark_reads close) (λ end.
-        done_reads (x ∷ xs))) (λ xs. then_begins _ _ _ (one_begins _ _ (λ t line h. ap (is_mark 44) h.0 ∙ other)))
+        done_reads (x ∷ xs))) (λ xs front rest ys s k. closes (x ∷ xs) front rest ys s)
 
-    loop_reads : (x : X) → Reads (by_loop x) (spell.◌>>=◌ (many (after_comma S)) (λ xs. spell.◌>>=◌ (spell.mark close) (λ end. spell.done (x ∷ xs)))) Free
-    loop_reads x = subst (λ g. Reads g (spell.◌>>=◌ (many (after_comma S)) (λ xs. spell.◌>>=◌ (spell.mark close) (λ end. spell.done (x ∷ xs)))) Free) (same_reading x) (grammar_reads x)
+    loop_reads : (x : X) → Reads (by_loop x) (spell.◌>>=◌ (many (after_comma S)) (λ xs. closing (x ∷ xs))) Free
+    loop_reads x = subst (λ g. Reads g (spell.◌>>=◌ (many (after_comma S)) (λ xs. closing (x ∷ xs))) Free) (same_reading x) (grammar_reads x)
+
+    more_begins : (x : X) → Begins (spell.◌>>=◌ (many (after_comma S)) (λ xs. closing (x ∷ xs))) (λ t. q (Some t) ≡ false)
+    more_begins x =
+        many_begins _ _ _ (then_begins _ _ _ (one_begins _ _ (λ t line h. marks 44 t h.0)))
+        (λ xs. then_begins _ _ _ (one_begins _ _ (λ t line h. marks close t h.0)))
 
     items_reads : (form : Items) → Reads (items_at close f form) (items close S form) Free
     unfolding items_at by_loop
     items_reads AtEnd = then_reads (mark_reads close) (λ end. done_reads [])
-    items_reads OneMore = then_reads r loop_reads
+    items_reads OneMore = many_then_reads q r loop_reads more_begins
 
     items_begins : (form : Items) → Begins (items close S form) (λ t. items_form close (Some t) ≡ Some form)
     items_begins AtEnd = then_begins _ _ _ (one_begins _ _ (λ t line h. ap (λ (c : Bool). cond c (Some AtEnd) (Some OneMore)) (ap (is_mark close) h.0 ∙ (Decides-eqb close close).1 refl)))
     items_begins OneMore = then_begins _ _ _ (λ front x s. let u = b front x s in (u.0, u.1, ap (λ (c : Bool). cond c (Some AtEnd) (Some OneMore)) u.2, u.3))
 
     -- x, .. and the closing mark
-    pub list_reads : Reads (list_at close f) (list_to close S) Free
-    list_reads = pick_reads (items_form close) (items_at close f) (items close S) Free items_reads items_begins AtEnd
+    pub list_reads_where : Reads (list_at close f) (list_to close S) Free
+    list_reads_where = pick_reads (items_form close) (items_at close f) (items close S) Free items_reads items_begins AtEnd
+
+-- where anything can follow an item
+pub list_reads : {X : Type 0} (f : Read X) (S : List Lexeme → X → Type 0) → Reads f S Free → (close : ℕ) → (close == 44) ≡ false → Begins S (λ t. is_mark close t.kind ≡ false) → Reads (list_at close f) (list_to close S) Free
+list_reads f S r = list_reads_where f S (λ o. false) (λ m t k. refl) (reads_before (Stops (λ o. false)) (λ ts h. tt) r)
 
 -- what shrinks behind a comma
 module _ {X : Type 0} (f : Read X) (shrinks : Shrinks f) where

@@ -6,8 +6,9 @@ use Rattle.ir_core.specs.declared.answers.Or.TheVariants.{Refused, Memory}
 use Rattle.ir_core.specs.Tokens.{Lexeme}
 use Rattle.ir_core.specs.Spell.{SameNext, many}
 use Rattle.ir_core.specs.Spell as G
-use Rattle.read_forms.specs.Read.{Read, then_read, ◌>>=◌, head, turn, turns, many_at, put_all, Shrinks, Fails}
-use Rattle.read_forms.proofs.Readers.{Taken, Halted, Reads, Free, same_front, same_head, ok_parts, ok_not_err, err_is, Begins, then_reads_where, reads_before}
+use Rattle.read_forms.specs.Read.{Read, then_read, ◌>>=◌, done, head, turn, turns, many_at, dropped_at, put_all, Shrinks, Fails}
+use Rattle.read_forms.proofs.Readers.{Taken, Halted, Reads, Free, same_front, same_head, ok_parts, ok_not_err, err_is, Begins, done_reads, then_reads_where, reads_before}
+use Rattle.ir_core.specs.Forms.{dropped}
 
 -- ---- one after another
 abbrev pub Stops : (Option Lexeme → Bool) → List Lexeme → Type 0
@@ -93,6 +94,26 @@ module _ {X : Type 0} (p : Option Lexeme → Bool) (f : Read X) (shrinks : Shrin
     pub loop_fails : (e : Or ℕ) → p (head rest) ≡ true → Fails e (f rest) → Fails e a
     loop_fails Memory g k = tt
     loop_fails (Refused n) g k = so_far ∙ ap (put_all out) (many_fails rest n g k)
+
+  abbrev forget : Result (List X × List Lexeme) ℕ → Result (Unit {0} × List Lexeme) ℕ
+  forget a = then_read a (λ xs. done tt)
+
+  drop_put : (x : X) (a : Result (List X × List Lexeme) ℕ) → forget (put x a) ≡ forget a
+  unfolding put
+  drop_put x (Ok q) = refl
+  drop_put x (Err n) = refl
+
+  -- a loop that drops what it reads
+  module _ (a : Result (Unit {0} × List Lexeme) ℕ) (rest : List Lexeme) (so_far : a ≡ dropped_at p f rest) where
+    pub drop_more : (after : List Lexeme) (x : X) → p (head rest) ≡ true → f rest ≡ Ok (x, after) → a ≡ dropped_at p f after
+    drop_more after x g e = so_far ∙ ap forget (many_step rest x after g e) ∙ drop_put x (many_at p f after)
+
+    pub drop_ends : p (head rest) ≡ false → a ≡ Ok (tt, rest)
+    drop_ends g = so_far ∙ ap forget (many_stops rest g)
+
+    pub drop_fails : (e : Or ℕ) → p (head rest) ≡ true → Fails e (f rest) → Fails e a
+    drop_fails Memory g k = tt
+    drop_fails (Refused n) g k = so_far ∙ ap forget (many_fails rest n g k)
 
 -- ---- what is repeated is read as it is spelled, where the first token of an item can follow any item
 module _ {X : Type 0} (p : Option Lexeme → Bool) (f : Read X) (S : List Lexeme → X → Type 0) (F : List Lexeme → Type 0) (r : Reads f S F) (b : Begins S (λ t. p (Some t) ≡ true)) (ends : p None ≡ false) (follows : (ts : List Lexeme) → p (head ts) ≡ true → F ts) where
@@ -215,3 +236,27 @@ many_reads p f S r b ends = reads_before (Stops p) (λ ts h. (h, tt)) (many_read
 -- repeated, and then what never begins like one more
 pub many_then_reads : {X Y : Type 0} (p : Option Lexeme → Bool) {f : Read X} {S : List Lexeme → X → Type 0} {g : X → Read Y} {T : X → List Lexeme → Y → Type 0} {H : List Lexeme → Type 0} → Reads f S (Stops p) → ((xs : X) → Reads (g xs) (T xs) H) → ((xs : X) → Begins (T xs) (λ t. p (Some t) ≡ false)) → Reads (f >>= g) (G.◌>>=◌ S T) H
 many_then_reads p {f = f} {S = S} {g = g} {T = T} {H = H} a b c = then_reads_where f S (Stops p) g T H a b (λ xs front rest y t k. begins_stops (T xs) p (c xs) front rest y t)
+
+-- what is repeated, and what then follows, begin in the same way
+pub many_begins : {X Y : Type 0} (S : List Lexeme → X → Type 0) (T : List X → List Lexeme → Y → Type 0) (P : Lexeme → Type 0) → Begins S P → ((xs : List X) → Begins (T xs) P) → Begins (G.◌>>=◌ (many S) T) P
+many_begins {X} {Y} S T P b c front y s = by_first s.0 s.1 s.2 s.3 s.4 s.5
+  where
+    by_first : (xs : List X) (a z : List Lexeme) → many S a xs → T xs z y → front ≡ a ++ z → (t : Lexeme) × (more : List Lexeme) × P t × (front ≡ t ∷ more)
+    by_first [] a z m k e = let u = c [] z y k in (u.0, u.1, u.2, e ∙ ap (λ (l : List Lexeme). l ++ z) m ∙ u.3)
+    by_first (x ∷ xs) a z m k e = let u = b m.0 x m.2 in (u.0, (u.1 ++ m.1) ++ z, u.2, e ∙ ap (λ (l : List Lexeme). l ++ z) (m.4 ∙ ap (λ (l : List Lexeme). l ++ m.1) u.3))
+
+-- what is repeated is dropped
+pub dropped_reads : {X : Type 0} (p : Option Lexeme → Bool) (f : Read X) (S : List Lexeme → X → Type 0) → Reads f S Free → Begins S (λ t. p (Some t) ≡ true) → p None ≡ false → Reads (dropped_at p f) (dropped S) (Stops p)
+dropped_reads p f S r b ends =
+    then_reads_where (many_at p f) (many S) (Stops p) (λ xs. done tt) (λ xs. G.done tt) (Stops p)
+    (many_reads p f S r b ends)
+    (λ xs. reads_before (Stops p) (λ ts h. tt) (done_reads tt))
+    (λ xs front rest y s k. subst (λ l. Stops p (l ++ rest)) (sym s.0) k)
+
+-- any dropped, and what then follows, begin in the same way
+pub dropped_begins : {X Y : Type 0} (S : List Lexeme → X → Type 0) (T : Unit {0} → List Lexeme → Y → Type 0) (P : Lexeme → Type 0) → Begins S P → Begins (T tt) P → Begins (G.◌>>=◌ (dropped S) T) P
+dropped_begins {X} {Y} S T P b c front y s = by_first s.3.0 s.3.1 s.3.2 s.3.3 s.3.4 s.3.5
+  where
+    by_first : (xs : List X) (a z : List Lexeme) → many S a xs → (z ≡ []) × (s.0 ≡ tt) → s.1 ≡ a ++ z → (t : Lexeme) × (more : List Lexeme) × P t × (front ≡ t ∷ more)
+    by_first [] a z m k e = let u = c s.2 y s.4 in (u.0, u.1, u.2, s.5 ∙ ap (λ (l : List Lexeme). l ++ s.2) (e ∙ ap (λ (l : List Lexeme). l ++ z) m ∙ k.0) ∙ u.3)
+    by_first (x ∷ xs) a z m k e = let u = b m.0 x m.2 in (u.0, ((u.1 ++ m.1) ++ z) ++ s.2, u.2, s.5 ∙ ap (λ (l : List Lexeme). l ++ s.2) (e ∙ ap (λ (l : List Lexeme). l ++ z) (m.4 ∙ ap (λ (l : List Lexeme). l ++ m.1) u.3)))

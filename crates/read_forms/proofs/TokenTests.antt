@@ -1,13 +1,16 @@
 -- The tests of single tokens are exact.
-use Rattle.std.proofs.Common.{◌≡◌, ℕ, ◌-◌, List, [], ◌∷◌, Option, Some, None, Bool, true, false, cond, refl, sym, ap, ◌∙◌, subst, inl, inr, ◌⊎◌, if◌then◌else◌, length, take, drop}
+use Rattle.std.proofs.Common.{◌≡◌, ℕ, ◌-◌, List, [], ◌∷◌, Option, Some, None, Bool, true, false, cond, refl, sym, ap, ◌∙◌, subst, inl, inr, ◌⊎◌, if◌then◌else◌, length, take, drop, zero, suc, ◌<◌, ◌++◌, codes, nat_lt, arith}
+use Rattle.std.specs.Prelude.{Contains, slice_index_or}
+use Rattle.std.proofs.lemmas.Bool.Decides.{nat_tests}
 use Rattle.std.specs.Str.{bytes_eq}
 use Rattle.std.proofs.lemmas.Slice.Eq.{bytes_eq-Decides}
 use Rattle.std.proofs.lemmas.Bool.Decides.{Decides-eqb}
-use Rattle.ir_core.specs.Tokens.{Lexeme, TokenKind, Word, Local, Global, Label, Mark}
+use Rattle.ir_core.specs.Tokens.{Lexeme, TokenKind, Word, Local, Global, Label, Number, Mark}
 use Rattle.ir_core.specs.Spell.{InTable, IsWordIn, IsWord, IsMark, with_line}
 use Rattle.ir_core.specs.Escapes.{stem_name}
-use Rattle.ir_core.specs.Forms.{IsLocal, IsGlobal, IsLabel}
-use Rattle.read_forms.specs.Read.{is_word, is_local, is_global, is_label, is_mark, as_local, as_global, as_label, as_mark, spells_word, as_word, look_up, as_table, lined, with_line_of}
+use Rattle.ir_core.specs.Numbers.{is_negative, value_of}
+use Rattle.ir_core.specs.Forms.{IsLocal, IsGlobal, IsLabel, IsOneOf, IsNatural}
+use Rattle.read_forms.specs.Read.{is_word, is_local, is_global, is_label, is_mark, as_local, as_global, as_label, as_mark, spells_word, as_word, look_up, as_table, lined, with_line_of, all_for, as_one_of, is_number, below, natural_of, as_natural}
 use Rattle.read_forms.proofs.Readers.{Tests}
 
 pub chosen : {A : Type 0} (b : Bool) (x y z : A) → cond b x y ≡ z → ((b ≡ true) × (x ≡ z)) ⊎ ((b ≡ false) × (y ≡ z))
@@ -184,3 +187,122 @@ module _ {X : Type 0} (f : Lexeme → Option X) (Is : Lexeme → X → Type 0) (
     value = (tests.value, tests.some.line);
     holds = (tests.holds, refl);
   }
+
+-- ---- words that all stand for the same
+pub contains_in : {V : Type 0} (v : V) (ws : List (List ℕ)) (k : ℕ) (x : List ℕ) → k < length ws → slice_index_or ws k x ≡ x → InTable (all_for v ws) x v
+contains_in v [] k x l e = absurd (omega arith)
+contains_in v (w ∷ ws) zero x l e = inl (sym e, refl)
+contains_in v (w ∷ ws) (suc k) x l e = inr (contains_in v ws k x (omega arith) e)
+
+pub in_contains : {V : Type 0} (v u : V) (ws : List (List ℕ)) (x : List ℕ) → InTable (all_for v ws) x u → Contains ws x
+in_contains v u [] x i = absurd i
+in_contains v u (w ∷ ws) x (inl p) = (0, omega arith, sym p.0)
+in_contains v u (w ∷ ws) x (inr i) = let c = in_contains v u ws x i in (suc c.0, (let l = c.1 in omega arith), c.2)
+
+-- a table with an entry more
+pub in_front : {V : Type 0} (es fs : List (List ℕ × V)) (x : List ℕ) (v : V) → InTable es x v → InTable (es ++ fs) x v
+in_front [] fs x v i = absurd i
+in_front (a ∷ es) fs x v (inl p) = inl p
+in_front (a ∷ es) fs x v (inr i) = inr (in_front es fs x v i)
+
+pub in_back : {V : Type 0} (es fs : List (List ℕ × V)) (x : List ℕ) (v : V) → InTable fs x v → InTable (es ++ fs) x v
+in_back [] fs x v i = i
+in_back (a ∷ es) fs x v i = inr (in_back es fs x v i)
+
+one_of_only : (ws : List (List ℕ)) → distinct (all_for (tt {0}) ws) ≡ true → (t : Lexeme) (u : Unit {0}) → IsOneOf ws t → as_one_of ws t ≡ Some u
+one_of_only ws d t u h = table_only (all_for (tt {0}) ws) d t tt (h.0, contains_in (tt {0}) ws h.1.0 t.bytes h.1.1 h.1.2)
+
+one_of_found : (ws : List (List ℕ)) (t : Lexeme) (u : Unit {0}) → as_one_of ws t ≡ Some u → IsOneOf ws t
+one_of_found ws t u e = let c = table_found (all_for (tt {0}) ws) t u e in (c.0, in_contains (tt {0}) u ws t.bytes c.1)
+
+-- one of these words, of which no two are the same
+pub one_of_tests : (ws : List (List ℕ)) → distinct (all_for (tt {0}) ws) ≡ true → (w : List ℕ) → Contains ws w → Tests (as_one_of ws) (λ t u. IsOneOf ws t)
+one_of_tests ws d w c = record {
+  found = one_of_found ws;
+  only = one_of_only ws d;
+  some = record { kind = Word; bytes = w; line = 0 };
+  value = tt;
+  holds = (refl, c);
+}
+
+-- ---- numbers without a sign
+pub number_kind : (k : TokenKind) → is_number k ≡ true → k ≡ Number
+number_kind Number e = refl
+number_kind _ e = absurd (let f : false ≡ true = e in cc)
+
+less_found : (a b : ℕ) (c : Bool) → nat_lt a b ≡ c → c ≡ true → a < b
+less_found a b c h e = grind (arith, nat_tests)
+
+below_found : (limit m n : ℕ) → below limit m ≡ Some n → (m ≡ n) × (n < limit)
+below_found limit m n e =
+    let c = chosen_some (nat_lt m limit) (Some m) n e in
+    let k = some_is m n c.1 in
+    (k, subst (λ (i : ℕ). i < limit) k (less_found m limit (nat_lt m limit) refl c.0))
+
+natural_found : (limit : ℕ) (t : Lexeme) (n : ℕ) → as_natural limit t ≡ Some n → IsNatural limit t n
+natural_found limit t n e =
+    let c = chosen_some (is_number t.kind) (natural_of limit t.bytes) n e in
+    elim (chosen (is_negative t.bytes) None (below limit (value_of t.bytes)) (Some n) c.1) [
+      | inl p ↦ let q = p.1 in let f : ⊥ = cc in absurd f
+      | inr p ↦ let b = below_found limit (value_of t.bytes) n p.1 in (number_kind t.kind c.0, p.0, b.0, b.1)
+    ]
+
+less_only : (m limit : ℕ) → m < limit → nat_lt m limit ≡ true
+less_only m limit l = grind (arith, nat_tests)
+
+natural_only : (limit : ℕ) (t : Lexeme) (n : ℕ) → IsNatural limit t n → as_natural limit t ≡ Some n
+natural_only limit t n h =
+    ap (λ (k : TokenKind). cond (is_number k) (natural_of limit t.bytes) None) h.0
+    ∙ ap (λ (b : Bool). cond b None (below limit (value_of t.bytes))) h.1
+    ∙ ap (below limit) h.2
+    ∙ ap (λ (b : Bool). cond b (Some n) None) (less_only n limit h.3)
+
+pub natural_tests : (limit : ℕ) → 0 < limit → Tests (as_natural limit) (IsNatural limit)
+natural_tests limit l = record {
+  found = natural_found limit;
+  only = natural_only limit;
+  some = record { kind = Number; bytes = codes "0"; line = 0 };
+  value = 0;
+  holds = (refl, refl, refl, l);
+}
+
+-- ---- words of one table alone
+abbrev pub apart : {V W : Type 0} → List (List ℕ × V) → List (List ℕ × W) → Bool
+apart [] fs = true
+apart (e ∷ es) fs = if fresh e.0 fs then apart es fs else false
+
+look_past : {W : Type 0} (a : List ℕ × W) (fs : List (List ℕ × W)) (x : List ℕ) → fresh x (a ∷ fs) ≡ true → look_up fs x ≡ None → (b : Bool) → bytes_eq x a.0 ≡ b → look_up (a ∷ fs) x ≡ None
+look_past a fs x e f true h = absurd (not_fresh (a ∷ fs) x a.1 (inl (same_bytes x a.0 h, refl)) e)
+look_past a fs x e f false h = ap (λ (b : Bool). cond b (Some a.1) (look_up fs x)) h ∙ f
+
+fresh_later : {W : Type 0} (a : List ℕ × W) (fs : List (List ℕ × W)) (x : List ℕ) → fresh x (a ∷ fs) ≡ true → fresh x fs ≡ true
+fresh_later a fs x e = elim (chosen (bytes_eq a.0 x) _ _ _ e) [
+  | inl p ↦ let q = p.1 in let f : ⊥ = cc in absurd f
+  | inr p ↦ p.1
+]
+
+look_fresh : {W : Type 0} (fs : List (List ℕ × W)) (x : List ℕ) → fresh x fs ≡ true → look_up fs x ≡ None
+look_fresh [] x e = refl
+look_fresh (a ∷ fs) x e = look_past a fs x e (look_fresh fs x (fresh_later a fs x e)) (bytes_eq x a.0) refl
+
+look_apart : {V W : Type 0} (es : List (List ℕ × V)) (fs : List (List ℕ × W)) (x : List ℕ) (v : V) → apart es fs ≡ true → InTable es x v → look_up fs x ≡ None
+look_apart [] fs x v d i = absurd i
+look_apart (a ∷ es) fs x v d (inl p) = elim (chosen (fresh a.0 fs) _ _ _ d) [
+  | inl q ↦ look_fresh fs x (ap (λ (l : List ℕ). fresh l fs) p.0 ∙ q.0)
+  | inr q ↦ let r = q.1 in let f : ⊥ = cc in absurd f
+]
+look_apart (a ∷ es) fs x v d (inr i) = elim (chosen (fresh a.0 fs) _ _ _ d) [
+  | inl q ↦ look_apart es fs x v q.1 i
+  | inr q ↦ let r = q.1 in let f : ⊥ = cc in absurd f
+]
+
+-- a word of a table is none of another
+pub not_in : {V W : Type 0} (es : List (List ℕ × V)) (fs : List (List ℕ × W)) → apart es fs ≡ true → (t : Lexeme) (v : V) → IsWordIn es t v → as_table fs t ≡ None
+not_in es fs d t v h = ap (λ (k : TokenKind). cond (is_word k) (look_up fs t.bytes) None) h.0 ∙ look_apart es fs t.bytes v d h.1
+
+-- what is no word is in no table
+pub no_word : {W : Type 0} (fs : List (List ℕ × W)) (t : Lexeme) (k : TokenKind) → t.kind ≡ k → is_word k ≡ false → as_table fs t ≡ None
+no_word fs t k e f = ap (λ (j : TokenKind). cond (is_word j) (look_up fs t.bytes) None) e ∙ ap (λ (b : Bool). cond b (look_up fs t.bytes) None) f
+
+pub no_word_spelled : (w : List ℕ) (t : Lexeme) (k : TokenKind) → t.kind ≡ k → is_word k ≡ false → spells_word w t ≡ false
+no_word_spelled w t k e f = ap (λ (j : TokenKind). cond (is_word j) (bytes_eq t.bytes w) false) e ∙ ap (λ (b : Bool). cond b (bytes_eq t.bytes w) false) f

@@ -2,3 +2,5 @@ pub mod Read
 pub mod Widths
 pub mod Operands
 pub mod Unescaped
+pub mod Forms
+pub mod Seen

@@ -1,9 +1,10 @@
 -- Ways to read from left to right, in the same steps as the ways to spell.
-use Rattle.std.specs.Prelude.{◌≡◌, ℕ, zero, suc, ◌<◌, ◌-◌, List, [], ◌∷◌, ◌++◌, Option, Some, None, Result, Ok, Err, Bool, true, false, ◌==◌, if◌then◌else◌, length, drop, take}
+use Rattle.std.specs.Prelude.{◌≡◌, ℕ, zero, suc, ◌<◌, ◌-◌, List, [], ◌∷◌, ◌++◌, Option, Some, None, Result, Ok, Err, Bool, true, false, ◌==◌, if◌then◌else◌, length, drop, take, nat_lt}
 use Rattle.std.specs.Str.{bytes_eq}
 use Rattle.ir_core.specs.declared.answers.Or.{Or}
 use Rattle.ir_core.specs.declared.answers.Or.TheVariants.{Refused, Memory}
-use Rattle.ir_core.specs.Tokens.{Lexeme, TokenKind, Word, Local, Global, Label, Mark}
+use Rattle.ir_core.specs.Tokens.{Lexeme, TokenKind, Word, Local, Global, Label, Number, Mark}
+use Rattle.ir_core.specs.Numbers.{is_negative, value_of}
 use Rattle.ir_core.specs.Escapes.{stem_name}
 use Rattle.ir_core.specs.Spell.{Items, AtEnd, OneMore}
 
@@ -69,6 +70,21 @@ put_all out (Err n) = Err n
 abbrev pub Shrinks : {X : Type 0} → Read X → Type 0
 Shrinks {X} f = (ts : List Lexeme) (x : X) (rest : List Lexeme) → f ts ≡ Ok (x, rest) → length rest < length ts
 
+-- ---- what may be absent, and what is dropped
+abbrev pub maybe_at : {X : Type 0} → X → (Option Lexeme → Bool) → Read X → Read X
+maybe_at none p f ts = if p (head ts) then f ts else Ok (none, ts)
+
+abbrev pub dropped_at : {X : Type 0} → (Option Lexeme → Bool) → Read X → Read (Unit {0})
+dropped_at p f ts = then_read (many_at p f ts) (λ xs. done tt)
+
+-- the one form where the test holds of the next token, else the other
+abbrev pub by_test : {X : Type 0} → Read X → Read X → Bool → Read X
+by_test f g true = f
+by_test f g false = g
+
+abbrev pub either_at : {X : Type 0} → (Option Lexeme → Bool) → Read X → Read X → Read X
+either_at p f g = pick (λ o. Some (p o)) (by_test f g)
+
 -- ---- to the end
 abbrev pub to_end : {X : Type 0} → X → Read X
 to_end x [] = Ok (x, [])
@@ -126,6 +142,39 @@ look_up (e ∷ es) word = if bytes_eq word e.0 then Some e.1 else look_up es wor
 abbrev pub as_table : {V : Type 0} → List (List ℕ × V) → Lexeme → Option V
 as_table table t = if is_word t.kind then look_up table t.bytes else None
 
+abbrev pub form_in : {K : Type 0} → List (List ℕ × K) → Option Lexeme → Option K
+form_in table None = None
+form_in table (Some t) = as_table table t
+
+-- whether this word comes next
+abbrev pub at_word : List ℕ → Option Lexeme → Bool
+at_word w None = false
+at_word w (Some t) = spells_word w t
+
+-- words that all stand for the same
+abbrev pub all_for : {V : Type 0} → V → List (List ℕ) → List (List ℕ × V)
+all_for v [] = []
+all_for v (w ∷ ws) = (w, v) ∷ all_for v ws
+
+-- one of these words
+abbrev pub as_one_of : List (List ℕ) → Lexeme → Option (Unit {0})
+as_one_of words = as_table (all_for (tt {0}) words)
+
+-- ---- numbers without a sign
+abbrev pub is_number : TokenKind → Bool
+is_number Number = true
+is_number _ = false
+
+abbrev pub below : ℕ → ℕ → Option ℕ
+below limit n = if nat_lt n limit then Some n else None
+
+abbrev pub natural_of : ℕ → List ℕ → Option ℕ
+natural_of limit bytes = if is_negative bytes then None else below limit (value_of bytes)
+
+abbrev pub as_natural : ℕ → Lexeme → Option ℕ
+as_natural limit t = if is_number t.kind then natural_of limit t.bytes else None
+
+-- ---- with a line
 abbrev pub lined : {X : Type 0} → ℕ → Option X → Option (X × ℕ)
 lined line None = None
 lined line (Some x) = Some (x, line)

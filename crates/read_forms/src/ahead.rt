@@ -2,7 +2,7 @@
 ghost use Rattle.std.specs.Prelude.{◌≡◌, ◌+◌, ◌-◌, [], ◌∷◌, length, take, drop, Option, MatchOption, IsTrue};
 ghost use Rattle.ir_core.specs.Tokens.{lexemes};
 ghost use Rattle.ir_lex.specs.Seen.{kind_seen, tokens_seen};
-ghost use Rattle.read_forms.specs.Read.{head, is_word, is_local, is_global, is_label, is_mark, at_mark, spells_word};
+ghost use Rattle.read_forms.specs.Read.{head, is_word, is_local, is_global, is_label, is_number, is_mark, at_mark, at_word, spells_word};
 
 use ir_lex::{Token, TokenKind};
 use std::marker::Model;
@@ -42,48 +42,63 @@ impl<'a> Model for Ahead<'a> {
 }
 
 impl<'a> Lexeme<'a> {
+    /// The token's kind.
     pub fn kind(&self) -> TokenKind
         ensures { kind_seen result ≡ self.now.kind }
     {
         self.kind
     }
 
+    /// The token's bytes.
     pub fn bytes(&self) -> &'a [u8]
         ensures { result.now ≡ self.now.bytes }
     {
         self.bytes
     }
 
+    /// The token's line, counted from 1.
     pub fn line(&self) -> u32
         ensures { result ≡ self.now.line }
     {
         self.line
     }
 
+    /// Whether it is a word.
     pub fn is_word(&self) -> bool
         ensures { result ≡ is_word self.now.kind }
     {
         matches!(self.kind, TokenKind::Word)
     }
 
+    /// Whether it is `%N`.
     pub fn is_local(&self) -> bool
         ensures { result ≡ is_local self.now.kind }
     {
         matches!(self.kind, TokenKind::Local)
     }
 
+    /// Whether it is `@N`.
     pub fn is_global(&self) -> bool
         ensures { result ≡ is_global self.now.kind }
     {
         matches!(self.kind, TokenKind::Global)
     }
 
+    /// Whether it is a number.
+    pub fn is_number(&self) -> bool
+        ensures { result ≡ is_number self.now.kind }
+    {
+        matches!(self.kind, TokenKind::Number)
+    }
+
+    /// Whether it is `N:`.
     pub fn is_label(&self) -> bool
         ensures { result ≡ is_label self.now.kind }
     {
         matches!(self.kind, TokenKind::Label)
     }
 
+    /// Whether it is this mark.
     pub fn is_mark(&self, mark: u8) -> bool
         ensures { result ≡ is_mark mark self.now.kind }
     {
@@ -147,6 +162,26 @@ impl<'a> Ahead<'a> {
         ensures { result ≡ length self.now }
     {
         self.tokens.len()
+    }
+
+    /// Whether this mark comes next.
+    pub fn is_at_mark(&self, mark: u8) -> bool
+        ensures { result ≡ at_mark mark (head self.now) }
+    {
+        match self.first() {
+            Some(token) => token.is_mark(mark),
+            None => false,
+        }
+    }
+
+    /// Whether this word comes next.
+    pub fn is_at_word(&self, word: &[u8]) -> bool
+        ensures { result ≡ at_word word.now (head self.now) }
+    {
+        match self.first() {
+            Some(token) => token.spells(word),
+            None => false,
+        }
     }
 
     /// The next token.

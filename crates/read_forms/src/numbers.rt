@@ -1,10 +1,14 @@
 //! Numbers, as they are written and as they are kept.
 ghost use Rattle.std.specs.Prelude.{◌≡◌, ◌≤◌, ◌^◌, true};
 ghost use Rattle.ir_core.specs.Numbers.{fits, modulo, value_of};
+ghost use Rattle.read_forms.specs.Read.{Gives, one_at, as_natural, natural_of, goes};
+ghost use Rattle.read_forms.specs.Forms.{as_length, as_alignment, alignment_at};
 ghost use Rattle.read_forms.specs.Operands.{as_number};
 ghost use Rattle.read_forms.specs.Widths.{HasWidth, in_word, kept_as, with_digit};
 
-use ir_core::{Ty, Value};
+use crate::ahead::Ahead;
+use crate::tokens::{Reading, expect_word};
+use ir_core::{Or, Ty, Value};
 
 fn power(exponent: u32) -> u128
     requires { exponent ≤ 64 }
@@ -97,5 +101,76 @@ pub fn number_value(ty: &Ty, bytes: &[u8]) -> Option<Value>
         Some(Value::Int(kept(ty, negative, magnitude)))
     } else {
         None
+    }
+}
+
+fn natural(bytes: &[u8]) -> Option<u64>
+    ensures { result ≡ natural_of (2 ^ 64) bytes.now }
+{
+    match bytes {
+        [b'-', ..] => None,
+        _ => number_of(bytes),
+    }
+}
+
+fn alignment(bytes: &[u8]) -> Option<u32>
+    ensures { result ≡ natural_of (2 ^ 32) bytes.now }
+{
+    u32::try_from(natural(bytes)?).ok()
+}
+
+fn is_zero(bytes: &[u8]) -> bool
+    ensures { result ≡ goes (natural_of 1 bytes.now) }
+{
+    match natural(bytes) {
+        Some(number) => number == 0,
+        None => false,
+    }
+}
+
+/// A number without a sign below 2^64.
+pub fn read_length<'a>(ahead: Ahead<'a>) -> Reading<'a, u64>
+    ensures { Gives result (one_at as_length ahead.entry) }
+{
+    let left = ahead.left();
+    match ahead.split() {
+        Some((token, rest)) if token.is_number() => match natural(token.bytes()) {
+            Some(number) => Ok((number, rest)),
+            None => Err(Or::Refused(left)),
+        },
+        _ => Err(Or::Refused(left)),
+    }
+}
+
+fn read_alignment_number<'a>(ahead: Ahead<'a>) -> Reading<'a, u32>
+    ensures { Gives result (one_at as_alignment ahead.entry) }
+{
+    let left = ahead.left();
+    match ahead.split() {
+        Some((token, rest)) if token.is_number() => match alignment(token.bytes()) {
+            Some(number) => Ok((number, rest)),
+            None => Err(Or::Refused(left)),
+        },
+        _ => Err(Or::Refused(left)),
+    }
+}
+
+/// `align A`, with A below 2^32.
+#[tactic(auto, unfolding(crate::specs::Forms::alignment_at))]
+pub fn read_alignment<'a>(ahead: Ahead<'a>) -> Reading<'a, u32>
+    ensures { Gives result (alignment_at ahead.entry) }
+{
+    let (_, rest) = expect_word(ahead, b"align".as_slice())?;
+    read_alignment_number(rest)
+}
+
+/// The number 0.
+pub(crate) fn expect_zero<'a>(ahead: Ahead<'a>) -> Reading<'a, u64>
+    ensures { Gives result (one_at (as_natural 1) ahead.entry) }
+{
+    let left = ahead.left();
+    match ahead.split() {
+        Some((token, rest)) if token.is_number() && is_zero(token.bytes()) => Ok((0, rest)),
+        _ => Err(Or::Refused(left)),
     }
 }

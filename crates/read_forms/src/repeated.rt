@@ -1,7 +1,7 @@
 //! Parts that stand any number of times in a row.
 ghost use Rattle.std.specs.Prelude.{◌≡◌, [], ◌∷◌, None, false, Bool, Option};
 ghost use Rattle.ir_core.specs.Tokens.{Lexeme};
-ghost use Rattle.read_forms.specs.Read.{Read, Gives, Shrinks, head, many_at, after_comma_at, more_at, list_at, at_mark};
+ghost use Rattle.read_forms.specs.Read.{Read, Gives, Shrinks, head, many_at, dropped_at, after_comma_at, more_at, list_at, at_mark};
 
 use crate::ahead::Ahead;
 use crate::tokens::{Reading, expect_mark};
@@ -47,18 +47,23 @@ pub fn read_many<'a, T: Repeated>(alloc: Global, ahead: Ahead<'a>) -> Reading<'a
     Ok((out, rest))
 }
 
-fn is_at_mark(ahead: &Ahead, mark: u8) -> bool
-    ensures { result ≡ at_mark mark (head ahead.now) }
+/// As many as begin, one after another, which are dropped.
+pub fn skip_many<'a, T: Repeated>(alloc: Global, ahead: Ahead<'a>) -> Reading<'a, ()>
+    requires ends { T.goes None ≡ false }
+    requires shrinks { Shrinks T.reading }
+    ensures { Gives result (dropped_at T.goes T.reading ahead.entry) }
 {
-    match ahead.first() {
-        Some(token) => token.is_mark(mark),
-        None => false,
+    let mut rest = ahead;
+    while T::begins(&rest) {
+        let (_, after) = T::read(alloc, rest)?;
+        rest = after;
     }
+    Ok(((), rest))
 }
 
-/// `, x`.
+/// A comma, and then the part.
 #[tactic(auto, unfolding(crate::specs::Read::after_comma_at))]
-fn read_after_comma<'a, T: Part>(alloc: Global, ahead: Ahead<'a>) -> Reading<'a, T::Item>
+pub fn read_next<'a, T: Part>(alloc: Global, ahead: Ahead<'a>) -> Reading<'a, T::Item>
     ensures { Gives result (after_comma_at T.reading ahead.entry) }
 {
     let (_, rest) = expect_mark(ahead, b',')?;
@@ -76,8 +81,8 @@ fn read_more<'a, T: Part>(
 {
     let mut out = before;
     let mut rest = ahead;
-    while is_at_mark(&rest, b',') {
-        let (item, after) = read_after_comma::<T>(alloc, rest)?;
+    while rest.is_at_mark(b',') {
+        let (item, after) = read_next::<T>(alloc, rest)?;
         out.push(item)?;
         rest = after;
     }
@@ -95,7 +100,7 @@ pub fn read_list<'a, T: Part>(
     ensures { Gives result (list_at close T.reading ahead.entry) }
 {
     let mut out = List::new(alloc);
-    if is_at_mark(&ahead, close) {
+    if ahead.is_at_mark(close) {
         let (_, rest) = expect_mark(ahead, close)?;
         return Ok((out, rest));
     }
