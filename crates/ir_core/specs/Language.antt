@@ -226,12 +226,9 @@ init_form E ty BracesInit = do
   elements ← list_to 125 E
   done (Braces elements)
 
-abbrev pub no_element : Spell Element
-no_element ts e = ⊥
-
 -- an initializer with no more brackets open at once than this
 abbrev pub init_in : ℕ → Ty → Spell Init
-init_in zero ty = any (init_form no_element ty)
+init_in zero ty = one (IsPlainInit ty)
 init_in (suc depth) ty = any (init_form (element_of (init_in depth)) ty)
 
 abbrev pub some_init : Ty → Spell (Option Init)
