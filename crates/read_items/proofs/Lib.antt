@@ -1,1 +1,5 @@
+pub mod Contents
+pub mod Inits
 pub mod Linked
+pub mod Otherwise
+pub mod Words

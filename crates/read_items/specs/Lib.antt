@@ -1,1 +1,3 @@
+pub mod Globals
+pub mod Inits
 pub mod Linked
