@@ -1,5 +1,5 @@
 -- What a global holds, and whether the next one is begun behind it, is read as it is spelled.
-use Rattle.std.proofs.Common.{◌≡◌, ℕ, suc, List, [], ◌∷◌, ◌++◌, codes, drop, Option, Some, None, Bool, true, false, cond, refl, sym, ap, ◌∙◌, subst, ◌⊎◌, inl, inr}
+use Rattle.std.proofs.Common.{◌≡◌, ℕ, suc, List, [], ◌∷◌, ◌++◌, codes, drop, Option, Some, None, Bool, true, false, cond, Result, Ok, Err, refl, sym, ap, ◌∙◌, subst, ◌⊎◌, inl, inr}
 use Rattle.ir_core.specs.declared.types.Ty.{Ty}
 use Rattle.ir_core.specs.declared.module.Init.{Init}
 use Rattle.ir_core.specs.declared.module.Init.TheVariants.{Addr}
@@ -17,14 +17,14 @@ use Rattle.read_forms.proofs.TokenTests.{global_tests, lined_tests, table_only, 
 use Rattle.read_forms.proofs.Lists.{mark_reads}
 use Rattle.read_forms.proofs.Laws.{made_reads}
 use Rattle.read_items.specs.Inits.{init_words, plain_by, as_plain_init, element_at, init_ahead, init_in_at}
-use Rattle.read_items.specs.Globals.{Named, Contents, holding, tail_at, address_at, next_begins_at, else_at, by_name_at, named_contents_at, other_by, as_other_init, inner_limit, other_init_at_form, other_contents_at, ContentsForm, NameFirst, OtherFirst, contents_at_form, contents_ahead, with_init_at, bare_at, init_starts, init_goes, contents_at}
+use Rattle.read_items.specs.Globals.{Named, Contents, holding, tail_at, address_at, next_begins_at, else_at, by_name_at, named_contents_at, other_by, as_other_init, inner_limit, other_init_at_form, other_contents_at, ContentsForm, NameFirst, OtherFirst, contents_at_form, contents_ahead, with_init_at, bare_at, init_starts_by, init_starts, init_goes, contents_at}
 use Rattle.read_items.proofs.Inits.{found_by, plain_only, by_kind, plain_first, form_of_kind, form_begins, form_reads, init_in_reads}
 use Rattle.read_items.proofs.Words.{Tail, Pieces, from_tail, tail_reads}
 use Rattle.read_items.proofs.Otherwise.{else_reads, first_only, second_only}
 
 -- ---- what stands behind commas begins with a comma, or is nothing
 
-abbrev NoComma : (Option Lexeme → Bool) → Type 0
+abbrev pub NoComma : (Option Lexeme → Bool) → Type 0
 NoComma q = (t : Lexeme) → t.kind ≡ Mark 44 → q (Some t) ≡ false
 
 pub tail_stops : (q : Option Lexeme → Bool) → NoComma q → (front rest : List Lexeme) (n : ℕ) → Tail front n → q (head rest) ≡ false → q (head (front ++ rest)) ≡ false
@@ -180,3 +180,50 @@ Bare = spell.◌>>=◌ Tail (λ align. spell.done (holding None align))
 pub bare_reads : Reads bare_at Bare (Stops (at_mark 44))
 unfolding bare_at
 bare_reads = made_reads (λ align. holding None align) tail_reads
+
+-- a token of a kind that isn't a word starts an initializer by its kind
+by_kind_starts : (t : Lexeme) (kind : TokenKind) → t.kind ≡ kind → is_word kind ≡ false → init_starts t ≡ init_starts_by kind t.bytes
+by_kind_starts t kind k w = ap (λ (o : Option Init). cond (goes o) true (init_starts_by t.kind t.bytes)) (no_word init_words t kind k w) ∙ ap (λ (j : TokenKind). init_starts_by j t.bytes) k
+
+word_starts : (t : Lexeme) (init : Init) → IsWordIn init_words t init → init_starts t ≡ true
+word_starts t init h = ap (λ (o : Option Init). cond (goes o) true (init_starts_by t.kind t.bytes)) (table_only init_words refl t init h)
+
+with_init_starts : (ty : Ty) (form : ContentsForm) → Begins (WithForm ty form) (λ t. init_goes (Some t) ≡ true)
+with_init_starts ty NameFirst = then_begins _ _ _ (one_begins _ _ (λ t x h. by_kind_starts t Global h.0.0 refl))
+with_init_starts ty OtherFirst = then_begins _ _ _ (other_first _ (λ t k. by_kind_starts t Number k refl) word_starts (λ t k. by_kind_starts t CText k refl) (λ t k. by_kind_starts t (Mark 91) k refl) (λ t k. by_kind_starts t (Mark 123) k refl) ty)
+
+pub with_init_first : (ty : Ty) → Begins (WithInit ty) (λ t. init_goes (Some t) ≡ true)
+with_init_first ty = any_begins (WithForm ty) _ (with_init_starts ty)
+
+comma_starts_none : NoComma init_goes
+comma_starts_none t k = by_kind_starts t (Mark 44) k refl
+
+pub bare_stops : (q : Option Lexeme → Bool) → NoComma q → (front rest : List Lexeme) (c : Contents) → Bare front c → q (head rest) ≡ false → q (head (front ++ rest)) ≡ false
+bare_stops q bars front rest c s h = made_stops q bars (λ align. holding None align) front rest c s h
+
+abbrev pub HoldsOf : Ty → List Lexeme → Contents → Type 0
+HoldsOf ty = either (WithInit ty) Bare
+
+pub contents_reads : (ty : Ty) → Reads (contents_at ty) (HoldsOf ty) Strong
+contents_reads ty =
+    else_reads init_goes (with_init_at ty) bare_at (WithInit ty) Bare Strong (reads_before Strong (λ ts h. (h.0, h.1)) (with_init_reads ty)) (reads_before Strong (λ ts h. h.0) bare_reads) (with_init_first ty)
+    (λ front rest c s w. bare_stops init_goes comma_starts_none front rest c s w.2)
+
+-- contents with an initializer, whatever follows but a comma or =
+pub with_init_only : (ty : Ty) (front rest : List Lexeme) (c : Contents) → WithInit ty front c → Weak rest → contents_at ty (front ++ rest) ≡ Ok (c, rest)
+with_init_only ty front rest c s w = first_only init_goes (with_init_at ty) bare_at (WithInit ty) Bare Strong (reads_before Strong (λ ts h. (h.0, h.1)) (with_init_reads ty)) (reads_before Strong (λ ts h. h.0) bare_reads) (with_init_first ty) (λ f r d t v. bare_stops init_goes comma_starts_none f r d t v.2) Weak (with_init_reads ty) front rest c s w
+
+-- bare contents, where no initializer could begin
+pub bare_only : (ty : Ty) (front rest : List Lexeme) (c : Contents) → Bare front c → Stops (at_mark 44) rest → init_goes (head (front ++ rest)) ≡ false → contents_at ty (front ++ rest) ≡ Ok (c, rest)
+bare_only ty front rest c s w h = second_only init_goes (with_init_at ty) bare_at (WithInit ty) Bare Strong (reads_before Strong (λ ts h. (h.0, h.1)) (with_init_reads ty)) (reads_before Strong (λ ts h. h.0) bare_reads) (with_init_first ty) (λ f r d t v. bare_stops init_goes comma_starts_none f r d t v.2) (Stops (at_mark 44)) bare_reads front rest c s w h
+
+-- no initializer begins with addrspace
+with_init_no_space : (ty : Ty) (form : ContentsForm) → Begins (WithForm ty form) (λ t. space_goes (Some t) ≡ false)
+with_init_no_space ty NameFirst = then_begins _ _ _ (one_begins _ _ (λ t x h. no_word_spelled (codes "addrspace") t Global h.0.0 refl))
+with_init_no_space ty OtherFirst =
+    then_begins _ _ _ (other_first _ (λ t k. no_word_spelled (codes "addrspace") t Number k refl) (λ t init h. not_spelled init_words (codes "addrspace") refl t init h)
+    (λ t k. no_word_spelled (codes "addrspace") t CText k refl) (λ t k. no_word_spelled (codes "addrspace") t (Mark 91) k refl) (λ t k. no_word_spelled (codes "addrspace") t (Mark 123) k refl) ty)
+
+pub holds_no_space : (ty : Ty) (front rest : List Lexeme) (c : Contents) → HoldsOf ty front c → Stops space_goes rest → Stops space_goes (front ++ rest)
+holds_no_space ty front rest c (inl s) h = let u = any_begins (WithForm ty) _ (with_init_no_space ty) front c s in ap (λ (l : List Lexeme). space_goes (head (l ++ rest))) u.3 ∙ u.2
+holds_no_space ty front rest c (inr s) h = bare_stops space_goes (λ t k. no_word_spelled (codes "addrspace") t (Mark 44) k refl) front rest c s h

@@ -1,4 +1,5 @@
 pub mod Contents
+pub mod Globals
 pub mod Inits
 pub mod Linked
 pub mod Otherwise
