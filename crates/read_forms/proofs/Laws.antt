@@ -228,7 +228,7 @@ attribute_form_reads SizedAttribute =
     then_reads (mark_reads 41) (λ close.
     done_reads tt))))
 
-attribute_begins : (form : AttributeForm) → Begins (attribute_form form) (λ t. form_in attribute_words (Some t) ≡ Some form)
+pub attribute_begins : (form : AttributeForm) → Begins (attribute_form form) (λ t. form_in attribute_words (Some t) ≡ Some form)
 attribute_begins PlainAttribute = one_begins _ _ (λ t u h. table_only attribute_words refl t PlainAttribute (h.0, in_front (all_for PlainAttribute plain_attributes) other_attribute_words t.bytes PlainAttribute (contains_in PlainAttribute plain_attributes h.1.0 t.bytes h.1.1 h.1.2)))
 attribute_begins AlignAttribute = then_begins _ _ _ (word_begins _ _ (word_form attribute_words (codes "align")))
 attribute_begins SizedAttribute = then_begins _ _ _ (one_begins _ _ (λ t u h. table_only attribute_words refl t SizedAttribute (h.0, in_back (all_for PlainAttribute plain_attributes) other_attribute_words t.bytes SizedAttribute (in_front (all_for SizedAttribute sized_attributes) align_word t.bytes SizedAttribute (contains_in SizedAttribute sized_attributes h.1.0 t.bytes h.1.1 h.1.2)))))

@@ -1,0 +1,2 @@
+//! Reads the bodies of functions: instructions and blocks.
+#![tactic(auto)]
