@@ -17,7 +17,9 @@ use Rattle.read_forms.proofs.Choices.{maybe_reads, maybe_reads_where, either, ei
 use Rattle.read_forms.proofs.TokenTests.{one_of_tests, contains_in, not_in, some_is, distinct, chosen_some, is_spelled, not_spelled, fresh}
 use Rattle.read_forms.proofs.Lists.{mark_reads}
 use Rattle.read_forms.proofs.Laws.{word_reads, word_begins, word_form, made_reads, next_reads, alignment_reads}
-use Rattle.read_items.specs.Globals.{item_word_by, as_item_word, item_word_goes, kept_words_at, is_text, as_text, last_alignment_at, comdat_first_at, last_piece_at, last_pieces_at, section_first_at, tail_at}
+use Rattle.read_body.specs.Ends.{next_alignment_at}
+use Rattle.read_body.proofs.EndLaws.{text_reads}
+use Rattle.read_items.specs.Globals.{item_word_by, as_item_word, item_word_goes, kept_words_at, comdat_first_at, last_piece_at, last_pieces_at, section_first_at, tail_at}
 
 -- ---- words
 
@@ -65,8 +67,8 @@ LastAlignment = maybe 0 (next alignment)
 comma_first : {X : Type 0} (S : List Lexeme → X → Type 0) → Begins (next S) (λ t. at_mark 44 (Some t) ≡ true)
 comma_first S = then_begins _ _ _ (one_begins _ _ (λ t line h. ap (is_mark 44) h.0))
 
-last_alignment_reads : Reads last_alignment_at LastAlignment (Stops (at_mark 44))
-unfolding last_alignment_at
+last_alignment_reads : Reads next_alignment_at LastAlignment (Stops (at_mark 44))
+unfolding next_alignment_at
 last_alignment_reads = maybe_reads 0 (at_mark 44) (after_comma_at alignment_at) (next alignment) (next_reads alignment_reads) (comma_first alignment)
 
 abbrev pub ComdatFirst : List Lexeme → ℕ → Type 0
@@ -75,22 +77,6 @@ ComdatFirst = spell.◌>>=◌ (word (codes "comdat")) (λ w. LastAlignment)
 comdat_reads : Reads comdat_first_at ComdatFirst (Stops (at_mark 44))
 unfolding comdat_first_at
 comdat_reads = then_reads (word_reads (codes "comdat")) (λ w. last_alignment_reads)
-
-text_kind : (k : TokenKind) → is_text k ≡ true → k ≡ Text
-text_kind Text e = refl
-text_kind _ e = absurd (let f : ◌≡◌ {A = Bool} false true = e in cc)
-
-text_tests : Tests as_text (λ t u. IsText t)
-text_tests = record {
-  found = λ t u h. text_kind t.kind (chosen_some (is_text t.kind) (Some tt) u h).0;
-  only = λ t u h. ap (λ (k : TokenKind). cond (is_text k) (Some (tt {0})) None) h;
-  some = record { kind = Text; bytes = []; line = 0 };
-  value = tt;
-  holds = refl;
-}
-
-pub text_reads : Reads (one_at as_text) (token IsText) Free
-text_reads = one_reads _ _ text_tests
 
 -- no alignment begins with another word
 alignment_no_word : (w : List ℕ) → fresh w ((codes "align", tt {0}) ∷ []) ≡ true → Begins alignment (λ t. spells_word w t ≡ false)

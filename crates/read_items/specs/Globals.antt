@@ -9,12 +9,13 @@ use Rattle.ir_core.specs.declared.module.Init.TheVariants.{Addr}
 use Rattle.ir_core.specs.declared.module.Element.{Element}
 use Rattle.ir_core.specs.declared.module.Global.{Global as GlobalItem}
 use Rattle.ir_core.specs.declared.module.TypeDef.{TypeDef}
-use Rattle.ir_core.specs.Tokens.{Lexeme, TokenKind, Word, Global, Number, Text, CText}
+use Rattle.ir_core.specs.Tokens.{Lexeme, TokenKind, Word, Global, Number, CText}
 use Rattle.ir_core.specs.Forms.{nesting_limit, begins_with_llvm}
 use Rattle.ir_core.specs.Instructions.{conventions}
 use Rattle.ir_core.specs.Language.{InitForm, PlainInit, SquareInit, BracesInit, item_words, constness}
 use Rattle.read_forms.specs.Read.{Read, ◌>>=◌, done, head, one_at, pick, goes, many_at, maybe_at, either_at, at_word, as_local, as_global, as_mark, as_word, as_table, as_one_of, at_mark, after_comma_at, is_mark, is_global, with_line_of}
 use Rattle.read_forms.specs.Forms.{type_at, alignment_at}
+use Rattle.read_body.specs.Ends.{as_text, next_alignment_at}
 use Rattle.read_items.specs.Inits.{init_words, plain_by, element_at, square_at, braces_at, init_ahead, init_in_at}
 
 -- ---- words
@@ -38,20 +39,10 @@ kept_words_at = do
 
 -- ---- what stands behind commas: [, section ".."] [, comdat] [, align A]
 
-abbrev pub is_text : TokenKind → Bool
-is_text Text = true
-is_text _ = false
-
-abbrev pub as_text : Lexeme → Option (Unit {0})
-as_text t = if is_text t.kind then Present tt else Absent
-
-unfoldable pub last_alignment_at : Read ℕ
-last_alignment_at = maybe_at 0 (at_mark 44) (after_comma_at alignment_at)
-
 unfoldable pub comdat_first_at : Read ℕ
 comdat_first_at = do
   w ← one_at (as_word (codes "comdat"))
-  last_alignment_at
+  next_alignment_at
 
 abbrev pub last_piece_at : Read ℕ
 last_piece_at = either_at (at_word (codes "comdat")) comdat_first_at alignment_at

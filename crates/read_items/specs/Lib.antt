@@ -1,3 +1,4 @@
+pub mod Functions
 pub mod Globals
 pub mod Inits
 pub mod Linked
