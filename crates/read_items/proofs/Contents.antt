@@ -72,7 +72,7 @@ made_stops q bars make front rest c s h =
 no_comma_mark : (m : ℕ) → is_mark m (Mark 44) ≡ false → NoComma (at_mark m)
 no_comma_mark m e t k = ap (is_mark m) k ∙ e
 
-abbrev ByName : Named → Bool → List Lexeme → Contents → Type 0
+abbrev pub ByName : Named → Bool → List Lexeme → Contents → Type 0
 ByName x true = Address x
 ByName x false = either (NextBegins x) (Address x)
 
@@ -182,7 +182,7 @@ unfolding bare_at
 bare_reads = made_reads (λ align. holding None align) tail_reads
 
 -- a token of a kind that isn't a word starts an initializer by its kind
-by_kind_starts : (t : Lexeme) (kind : TokenKind) → t.kind ≡ kind → is_word kind ≡ false → init_starts t ≡ init_starts_by kind t.bytes
+pub by_kind_starts : (t : Lexeme) (kind : TokenKind) → t.kind ≡ kind → is_word kind ≡ false → init_starts t ≡ init_starts_by kind t.bytes
 by_kind_starts t kind k w = ap (λ (o : Option Init). cond (goes o) true (init_starts_by t.kind t.bytes)) (no_word init_words t kind k w) ∙ ap (λ (j : TokenKind). init_starts_by j t.bytes) k
 
 word_starts : (t : Lexeme) (init : Init) → IsWordIn init_words t init → init_starts t ≡ true

@@ -120,7 +120,7 @@ word_at_reads : Reads function_word_at (any function_word) Closed
 word_at_reads = pick_reads function_word_ahead function_word_at_form function_word Closed function_word_reads function_word_begins KeptGroup
 
 -- a mark begins no word behind the parameters
-mark_no_word : (t : Lexeme) (m : ℕ) → t.kind ≡ Mark m → function_word_goes (Some t) ≡ false
+pub mark_no_word : (t : Lexeme) (m : ℕ) → t.kind ≡ Mark m → function_word_goes (Some t) ≡ false
 mark_no_word t m k =
     ap (λ (j : TokenKind). goes (cond (is_group j) (Some KeptGroup) (cond (is_text j) (Some TextWord) (cond (cond (is_meta j) (not (bytes_eq t.bytes (codes "!{"))) false) (Some Attached) (as_table function_words t))))) k
     ∙ ap goes (no_word function_words t (Mark m) k refl)
@@ -211,7 +211,7 @@ keeps_dropped q S b = keeps_then q (many S) (λ xs. spell.done tt) (keeps_many q
 
 -- ---- a parameter
 
-attribute_first : (P : Lexeme → Type 0) → ((t : Lexeme) (form : AttributeForm) → IsWordIn attribute_words t form → P t) → Begins (any attribute_form) P
+pub attribute_first : (P : Lexeme → Type 0) → ((t : Lexeme) (form : AttributeForm) → IsWordIn attribute_words t form → P t) → Begins (any attribute_form) P
 attribute_first P all front x s = let u = attribute_begins s.0 front x s.1 in (u.0, u.1, all u.0 s.0 (table_found attribute_words u.0 s.0 u.2), u.3)
 
 attribute_no_space : Begins (any attribute_form) (λ t. space_goes (Some t) ≡ false)
@@ -263,10 +263,10 @@ param_first = param_no_close _ (λ u. then_begins _ _ _ (type_in_no_mark 41 refl
 param_type_first : Begins param_type (λ t. is_mark 41 t.kind ≡ false)
 param_type_first = param_no_close _ (λ u. then_begins _ _ _ (type_in_no_mark 41 refl refl nesting_limit))
 
-params_reads : Reads (list_at 41 param_at) (list_to 41 param) Free
+pub params_reads : Reads (list_at 41 param_at) (list_to 41 param) Free
 params_reads = list_reads_where param_at param param_goes param_marks param_reads 41 refl param_first
 
-param_types_reads : Reads (list_at 41 param_type_at) (list_to 41 param_type) Free
+pub param_types_reads : Reads (list_at 41 param_type_at) (list_to 41 param_type) Free
 param_types_reads = list_reads_where param_type_at param_type param_goes param_marks param_type_reads 41 refl param_type_first
 
 pub param_shrinks : Shrinks param_at

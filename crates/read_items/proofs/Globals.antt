@@ -26,11 +26,11 @@ use Rattle.read_items.proofs.Contents.{Weak, Strong, Address, NextBegins, NamedC
 
 -- ---- globals, with the name of the next one where that is begun
 
-constness_reads : Reads (one_at (as_table constness)) (one (IsWordIn constness)) Free
+pub constness_reads : Reads (one_at (as_table constness)) (one (IsWordIn constness)) Free
 constness_reads = one_reads _ _ (table_tests constness refl (codes "global") false (inl (refl, refl)))
 
 -- global and constant are no words of an item
-constness_no_word : (t : Lexeme) (constant : Bool) → IsWordIn constness t constant → item_word_goes (Some t) ≡ false
+pub constness_no_word : (t : Lexeme) (constant : Bool) → IsWordIn constness t constant → item_word_goes (Some t) ≡ false
 constness_no_word t constant h =
     ap (λ (a : Option (Unit {0})). goes (item_word_by a (as_one_of conventions t) t.bytes)) (not_in constness (all_for (tt {0}) item_words) refl t constant h)
     ∙ ap (λ (b : Option (Unit {0})). goes (item_word_by None b t.bytes)) (not_in constness (all_for (tt {0}) conventions) refl t constant h)

@@ -1,7 +1,10 @@
 pub mod Contents
+pub mod Definitions
 pub mod Functions
 pub mod Globals
 pub mod Inits
+pub mod Items
+pub mod Modules
 pub mod Linked
 pub mod Otherwise
 pub mod Words

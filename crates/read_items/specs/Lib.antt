@@ -1,4 +1,5 @@
 pub mod Functions
 pub mod Globals
 pub mod Inits
+pub mod Items
 pub mod Linked
