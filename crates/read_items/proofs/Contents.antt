@@ -195,7 +195,7 @@ with_init_starts ty OtherFirst = then_begins _ _ _ (other_first _ (λ t k. by_ki
 pub with_init_first : (ty : Ty) → Begins (WithInit ty) (λ t. init_goes (Some t) ≡ true)
 with_init_first ty = any_begins (WithForm ty) _ (with_init_starts ty)
 
-comma_starts_none : NoComma init_goes
+pub comma_starts_none : NoComma init_goes
 comma_starts_none t k = by_kind_starts t (Mark 44) k refl
 
 pub bare_stops : (q : Option Lexeme → Bool) → NoComma q → (front rest : List Lexeme) (c : Contents) → Bare front c → q (head rest) ≡ false → q (head (front ++ rest)) ≡ false

@@ -119,6 +119,20 @@ function_word_first front x s = let u = function_word_begins s.0 front x s.1 in 
 word_at_reads : Reads function_word_at (any function_word) Closed
 word_at_reads = pick_reads function_word_ahead function_word_at_form function_word Closed function_word_reads function_word_begins KeptGroup
 
+-- what is no word, group, string or name of metadata begins no word behind the parameters
+pub kind_no_word : (t : Lexeme) (k : TokenKind) → t.kind ≡ k → is_word k ≡ false → is_group k ≡ false → is_text k ≡ false → is_meta k ≡ false → function_word_goes (Some t) ≡ false
+kind_no_word t k e w g x m =
+    ap (λ (j : TokenKind). goes (cond (is_group j) (Some KeptGroup) (cond (is_text j) (Some TextWord) (cond (cond (is_meta j) (not (bytes_eq t.bytes (codes "!{"))) false) (Some Attached) (as_table function_words t))))) e
+    ∙ ap (λ (b : Bool). goes (cond b (Some KeptGroup) (cond (is_text k) (Some TextWord) (cond (cond (is_meta k) (not (bytes_eq t.bytes (codes "!{"))) false) (Some Attached) (as_table function_words t))))) g
+    ∙ ap (λ (b : Bool). goes (cond b (Some TextWord) (cond (cond (is_meta k) (not (bytes_eq t.bytes (codes "!{"))) false) (Some Attached) (as_table function_words t)))) x
+    ∙ ap (λ (b : Bool). goes (cond (cond b (not (bytes_eq t.bytes (codes "!{"))) false) (Some Attached) (as_table function_words t))) m
+    ∙ ap goes (no_word function_words t k e w)
+
+-- a word that isn't in the table begins none either
+pub word_no_word : (t : Lexeme) → t.kind ≡ Word → as_table function_words t ≡ None → function_word_goes (Some t) ≡ false
+word_no_word t k e =
+    ap (λ (j : TokenKind). goes (cond (is_group j) (Some KeptGroup) (cond (is_text j) (Some TextWord) (cond (cond (is_meta j) (not (bytes_eq t.bytes (codes "!{"))) false) (Some Attached) (as_table function_words t))))) k ∙ ap goes e
+
 -- a mark begins no word behind the parameters
 pub mark_no_word : (t : Lexeme) (m : ℕ) → t.kind ≡ Mark m → function_word_goes (Some t) ≡ false
 mark_no_word t m k =

@@ -39,7 +39,7 @@ item_name_found t (Some y) x e h = name_found t (Some y) (begins_with_llvm y) x 
 item_name_only : (t : Lexeme) (x : List ℕ) → IsItemName t x → as_item_name t ≡ Some x
 item_name_only t x h = ap no_llvm (global_tests.only t x h.0) ∙ ap (λ (b : Bool). item_name_by b x) h.1
 
-item_name_tests : Tests as_item_name IsItemName
+pub item_name_tests : Tests as_item_name IsItemName
 item_name_tests = record {
   found = λ t x h. item_name_found t (as_global t) x refl h;
   only = item_name_only;
@@ -55,7 +55,7 @@ passive_kind _ e = absurd (let f : ◌≡◌ {A = Bool} false true = e in cc)
 line_found : (t : Lexeme) (x : List ℕ) → as_line t ≡ Some x → IsPassiveLine t x
 line_found t x h = let c = chosen_some (is_passive t.kind) (Some t.bytes) x h in (passive_kind t.kind c.0, some_is t.bytes x c.1)
 
-line_tests : Tests as_line IsPassiveLine
+pub line_tests : Tests as_line IsPassiveLine
 line_tests = record {
   found = line_found;
   only = λ t x h. ap (λ (k : TokenKind). cond (is_passive k) (Some t.bytes) None) h.0 ∙ ap Some h.1;
@@ -99,9 +99,12 @@ item_form_reads LineForm = reads_before EndsItem (λ ts h. tt) (made_reads (λ l
 by_word : (t : Lexeme) (form : ItemForm) → t.kind ≡ Word → as_table item_form_words t ≡ Some form → item_form_of t ≡ Some form
 by_word t form k e = ap (λ (j : TokenKind). cond (is_local j) (Some TypeForm) (cond (goes (no_llvm (cond (is_global j) (Some (stem_name (drop 1 t.bytes))) None))) (Some VariableForm) (cond (is_passive j) (Some LineForm) (as_table item_form_words t)))) k ∙ e
 
+pub variable_ahead : (t : Lexeme) (x : List ℕ) → IsItemName t x → item_ahead (Some t) ≡ Some VariableForm
+variable_ahead t x h = ap (λ (k : TokenKind). cond (is_local k) (Some TypeForm) (cond (goes (as_item_name t)) (Some VariableForm) (word_or_line t))) h.0.0 ∙ ap (λ (o : Option (List ℕ)). cond (goes o) (Some VariableForm) (word_or_line t)) (item_name_only t x h)
+
 pub item_begins : (form : ItemForm) → Begins (ItemOf form) (λ t. item_ahead (Some t) ≡ Some form)
 item_begins TypeForm = then_begins _ _ _ (then_begins _ _ _ (one_begins (with_line IsLocal) _ (λ t x h. ap (λ (k : TokenKind). cond (is_local k) (Some TypeForm) (cond (goes (as_item_name t)) (Some VariableForm) (word_or_line t))) h.0.0)))
-item_begins VariableForm = then_begins _ _ _ (one_begins _ _ (λ t x h. ap (λ (k : TokenKind). cond (is_local k) (Some TypeForm) (cond (goes (as_item_name t)) (Some VariableForm) (word_or_line t))) h.0.0.0 ∙ ap (λ (o : Option (List ℕ)). cond (goes o) (Some VariableForm) (word_or_line t)) (item_name_only t x.0 h.0)))
+item_begins VariableForm = then_begins _ _ _ (one_begins _ _ (λ t x h. variable_ahead t x.0 h.0))
 item_begins DefinitionForm = then_begins _ _ _ (then_begins _ _ _ (word_begins _ _ (λ t line h. by_word t DefinitionForm h.0 (word_form item_form_words (codes "define") t line h))))
 item_begins DeclarationForm = then_begins _ _ _ (then_begins _ _ _ (word_begins _ _ (λ t line h. by_word t DeclarationForm h.0 (word_form item_form_words (codes "declare") t line h))))
 item_begins LineForm = then_begins _ _ _ (one_begins _ _ (λ t x h. ap (λ (k : TokenKind). cond (is_local k) (Some TypeForm) (cond (goes (no_llvm (cond (is_global k) (Some (stem_name (drop 1 t.bytes))) None))) (Some VariableForm) (cond (is_passive k) (Some LineForm) (as_table item_form_words t)))) h.0))
@@ -112,3 +115,13 @@ StepOf (Some name) = BegunOf name
 
 pub item_reads : Reads (item_at None) (any ItemOf) EndsItem
 item_reads = pick_reads item_ahead item_at_form ItemOf EndsItem item_form_reads item_begins LineForm
+
+-- a global that is begun has one more token
+first_of : (f r : List Lexeme) (t : Lexeme) (more : List Lexeme) → r ≡ t ∷ more → (u : Lexeme) × (m : List Lexeme) × (f ++ r ≡ u ∷ m)
+first_of [] r t more e = (t, more, e)
+first_of (u ∷ us) r t more e = (u, us ++ r, refl)
+
+pub global_first : (name : Named) → Begins (BegunOf name) (λ t. Unit {0})
+global_first name front n (g, f, r, (words, f0, r0, W, (constant, f1, r1, (t, h, k), s, e1), e0), d, e) =
+    let u = first_of f0 r0 t r1 (e1 ∙ ap (λ (l : List Lexeme). l ++ r1) k) in
+    (u.0, u.1 ++ r, tt, e ∙ ap (λ (l : List Lexeme). l ++ r) (e0 ∙ u.2))

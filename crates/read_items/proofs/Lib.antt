@@ -6,5 +6,8 @@ pub mod Inits
 pub mod Items
 pub mod Modules
 pub mod Linked
+pub mod Only
 pub mod Otherwise
+pub mod Rests
+pub mod Spelled
 pub mod Words

@@ -30,7 +30,7 @@ unfolding nesting_limit inner_limit
 limit_is = refl
 
 -- what is behind the type, as the grammar has it
-abbrev EndOf : Named → List (List ℕ) → Bool → Ty → List Lexeme → GlobalItem → Type 0
+abbrev pub EndOf : Named → List (List ℕ) → Bool → Ty → List Lexeme → GlobalItem → Type 0
 EndOf name words constant ty =
     spell.◌>>=◌ (maybe None (some_init ty)) (λ init. spell.◌>>=◌ (maybe tt (next section_word)) (λ sec. spell.◌>>=◌ (maybe tt (next comdat_word)) (λ shared.
     spell.◌>>=◌ next_alignment (λ align. spell.done (record { name = name.0; words = words; constant = constant; ty = ty; init = init; align = align; line = name.1 })))))
@@ -72,13 +72,13 @@ address_of : (x : Named) (ts : List Lexeme) (align : ℕ) → Tail ts align → 
 address_of x ts align s = (align, ts, [], s, (refl, refl), sym (append-nil ts))
 
 -- what a global of the grammar holds: an initializer, or none
-abbrev HoldsInit : Named → List (List ℕ) → Bool → Ty → List Lexeme → GlobalItem → Type 0
+abbrev pub HoldsInit : Named → List (List ℕ) → Bool → Ty → List Lexeme → GlobalItem → Type 0
 HoldsInit name words constant ty ts g = (c : Contents) × (c.next ≡ None) × WithInit ty ts c × (g ≡ global_item name words constant ty c)
 
-abbrev HoldsNone : Named → List (List ℕ) → Bool → Ty → List Lexeme → GlobalItem → Type 0
+abbrev pub HoldsNone : Named → List (List ℕ) → Bool → Ty → List Lexeme → GlobalItem → Type 0
 HoldsNone name words constant ty ts g = (align : ℕ) × Tail ts align × (g ≡ global_item name words constant ty (holding None align))
 
-split_end : (name : Named) (words : List (List ℕ)) (constant : Bool) (ty : Ty) (ts : List Lexeme) (g : GlobalItem) → EndOf name words constant ty ts g → HoldsInit name words constant ty ts g ⊎ HoldsNone name words constant ty ts g
+pub split_end : (name : Named) (words : List (List ℕ)) (constant : Bool) (ty : Ty) (ts : List Lexeme) (g : GlobalItem) → EndOf name words constant ty ts g → HoldsInit name words constant ty ts g ⊎ HoldsNone name words constant ty ts g
 split_end name words constant ty ts g (init, f, r, inl h, s, e) =
     let t = from_end name words constant ty init r g s in
     inr (t.0, subst (λ l. Tail l t.0) (sym (e ∙ ap (λ (l : List Lexeme). l ++ r) h.0)) t.1, t.2 ∙ ap (λ (o : Option Init). global_item name words constant ty (holding o t.0)) h.1)
@@ -115,11 +115,11 @@ no_tail : Tail [] 0
 no_tail = (tt, [], [], inl (refl, refl), (tt, [], [], inl (refl, refl), inl (refl, refl), refl), refl)
 
 -- a name and the = behind it
-abbrev IsBegun : Named → List Lexeme → Type 0
+abbrev pub IsBegun : Named → List Lexeme → Type 0
 IsBegun b ts = (t u : Lexeme) × (line : ℕ) × (with_line IsItemName t b) × IsMark 61 u line × (ts ≡ t ∷ u ∷ [])
 
 -- a global to its end, or one without contents and what is begun of the next
-abbrev EndsOr : Named → List (List ℕ) → Bool → Ty → List Lexeme → Contents → Type 0
+abbrev pub EndsOr : Named → List (List ℕ) → Bool → Ty → List Lexeme → Contents → Type 0
 EndsOr name words constant ty ts c =
     ((c.next ≡ None) × EndOf name words constant ty ts (global_item name words constant ty c))
     ⊎ ((b : Named) × (c.next ≡ Some b) × IsBegun b ts × EndOf name words constant ty [] (global_item name words constant ty c))
@@ -130,7 +130,7 @@ address_ends name words constant ty ts f r c x t h k (align, a, z, s, (end, v), 
     let init : init_in nesting_limit ty f (Addr x.0) = subst (λ n. init_in n ty f (Addr x.0)) (sym limit_is) (PlainInit, (t, inr (inr (inr (inl (x.0, h.0, refl)))), k)) in
     inl (ap (λ (d : Contents). d.next) v, subst (λ d. EndOf name words constant ty ts (global_item name words constant ty d)) (sym v) (with_init_end name words constant ty f r ts (Addr x.0) align init (subst (λ l. Tail l align) (sym tail) s) e))
 
-holds_ends : (name : Named) (words : List (List ℕ)) (constant : Bool) (ty : Ty) (ts : List Lexeme) (c : Contents) → HoldsOf ty ts c → EndsOr name words constant ty ts c
+pub holds_ends : (name : Named) (words : List (List ℕ)) (constant : Bool) (ty : Ty) (ts : List Lexeme) (c : Contents) → HoldsOf ty ts c → EndsOr name words constant ty ts c
 holds_ends name words constant ty ts c (inl (NameFirst, (x, f, r, (t, h, k), s, e))) = by_llvm (begins_with_llvm x.0) refl s
   where
     by_llvm : (b : Bool) → begins_with_llvm x.0 ≡ b → ByName x b r c → EndsOr name words constant ty ts c
