@@ -10,4 +10,5 @@ pub mod Only
 pub mod Otherwise
 pub mod Rests
 pub mod Spelled
+pub mod Text
 pub mod Words

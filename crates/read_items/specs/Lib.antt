@@ -3,3 +3,4 @@ pub mod Globals
 pub mod Inits
 pub mod Items
 pub mod Linked
+pub mod Refused
