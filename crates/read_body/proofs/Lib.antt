@@ -1,5 +1,6 @@
-pub mod Ends
+pub mod Closed
 pub mod EndLaws
 pub mod Fuel
-pub mod Rows
+pub mod RowLaws
 pub mod Laws
+pub mod Kept

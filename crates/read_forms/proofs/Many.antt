@@ -35,7 +35,7 @@ put_none (Ok q) = refl
 put_none (Err n) = refl
 
 -- one value before those that come of more
-pub put : {X : Type 0} → X → Result (List X × List Lexeme) ℕ → Result (List X × List Lexeme) ℕ
+unfoldable pub put : {X : Type 0} → X → Result (List X × List Lexeme) ℕ → Result (List X × List Lexeme) ℕ
 put x a = then_read a (λ xs s. Ok (x ∷ xs, s))
 
 -- ---- turn after turn

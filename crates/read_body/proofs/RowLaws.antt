@@ -9,13 +9,13 @@ use Rattle.ir_core.specs.Spell as spell
 use Rattle.ir_core.specs.Forms.{next}
 use Rattle.ir_core.specs.Instructions.{attachments}
 use Rattle.read_forms.specs.Read.{Read, Shrinks, then_read, ◌>>=◌, done, made, head, as_mark, at_mark, by_test, maybe_at, either_at, after_comma_at, put_all, Fails}
-use Rattle.read_forms.proofs.Readers.{Reads, Free, Begins, done_reads, then_reads, reads_before}
+use Rattle.read_forms.proofs.Readers.{ok_parts, ok_not_err, Reads, Free, Begins, done_reads, then_reads, reads_before}
 use Rattle.read_forms.proofs.Many.{Stops}
 use Rattle.read_forms.proofs.Choices.{either}
 use Rattle.read_forms.proofs.Laws.{made_reads}
 use Rattle.read_body.specs.Ends.{closed, attachment_at, attachments_at, attached_at, meta_goes, behind_comma_at}
 use Rattle.read_body.specs.Rows.{row_at, rows_in, rows_at, some_at, one_row_at}
-use Rattle.read_body.proofs.Ends.{none_attached, first_attached, attached, attached_all, by_comma, by_comma_none, opened, shut}
+use Rattle.read_body.proofs.Closed.{none_attached, first_attached, attached, attached_all, by_comma, by_comma_none, opened, shut}
 use Rattle.read_body.proofs.EndLaws.{by_comma_reads}
 use Rattle.read_body.proofs.Fuel.{fuel_reads}
 
@@ -220,3 +220,41 @@ module _ {X : Type 0} (f : Read X) (shrinks : Shrinks f) where
     pub rows_loop_fails : (e : Or ℕ) → at_mark 44 (head rest) ≡ true → Fails e (one_row_at f rest) → Fails e a
     rows_loop_fails Memory g k = tt
     rows_loop_fails (Refused n) g k = so_far ∙ ap (put_all out) (rows_more rest g ∙ ap more k)
+
+abbrev none_of_rows : {X : Type 0} → X → Option X
+none_of_rows x = None
+
+-- a row read leaves fewer tokens
+module _ {X : Type 0} (f : Read X) (shrinks : Shrinks f) where
+  none_attached_row : (ts : List Lexeme) (x : X) (after : List Lexeme) → attached_at None ts ≡ Ok (Some x, after) → ⊥
+  unfolding attached_at
+  none_attached_row ts x after = by_first (attachment_at ts)
+    where
+      by_second : (a : Result (Unit {0} × List Lexeme) ℕ) → then_read a (λ b. done (none_of_rows x)) ≡ Ok (Some x, after) → ⊥
+      by_second (Ok p) e = let q = (ok_parts None (Some x) p.1 after e).0 in let h : ⊥ = cc in h
+      by_second (Err n) e = ok_not_err (Some x, after) n (sym e)
+
+      by_first : (a : Result (Unit {0} × List Lexeme) ℕ) → then_read a (λ u. attachments_at >>= λ b. done (none_of_rows x)) ≡ Ok (Some x, after) → ⊥
+      by_first (Ok p) e = by_second (attachments_at p.1) e
+      by_first (Err n) e = ok_not_err (Some x, after) n (sym e)
+
+  some_row : (ts : List Lexeme) (x : X) (after : List Lexeme) → some_at f ts ≡ Ok (Some x, after) → length after < length ts
+  unfolding some_at
+  some_row ts x after e = by_first (f ts) refl e
+    where
+      by_first : (a : Result (X × List Lexeme) ℕ) → f ts ≡ a → then_read a (λ y. done (Some y)) ≡ Ok (Some x, after) → length after < length ts
+      by_first (Ok p) h e = let q = (ok_parts (Some p.0) (Some x) p.1 after e).1 in let l = shrinks ts p.0 p.1 h in let m = ap length q in omega arith
+      by_first (Err n) h e = absurd (ok_not_err (Some x, after) n (sym e))
+
+  test_row : (ts : List Lexeme) (x : X) (after : List Lexeme) (c : Bool) → by_test (attached_at None) (some_at f) c ts ≡ Ok (Some x, after) → length after < length ts
+  test_row ts x after true e = absurd (none_attached_row ts x after e)
+  test_row ts x after false e = some_row ts x after e
+
+  mark_row : (t : Lexeme) (ts : List Lexeme) (x : X) (after : List Lexeme) (o : Option ℕ) → then_read (made o t ts) (λ comma. either_at meta_goes (attached_at None) (some_at f)) ≡ Ok (Some x, after) → length after < length (t ∷ ts)
+  mark_row t ts x after None e = absurd (ok_not_err (Some x, after) _ (sym e))
+  mark_row t ts x after (Some line) e = let l = test_row ts x after (meta_goes (head ts)) e in omega arith
+
+  pub row_shrinks : (ts : List Lexeme) (x : X) (after : List Lexeme) → one_row_at f ts ≡ Ok (Some x, after) → length after < length ts
+  unfolding behind_comma_at after_comma_at one_row_at
+  row_shrinks [] x after e = absurd (ok_not_err (Some x, after) 0 (sym e))
+  row_shrinks (t ∷ ts) x after e = mark_row t ts x after (as_mark 44 t) e
