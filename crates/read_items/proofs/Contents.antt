@@ -18,8 +18,8 @@ use Rattle.read_forms.proofs.Lists.{mark_reads}
 use Rattle.read_forms.proofs.Laws.{made_reads}
 use Rattle.read_items.specs.Inits.{init_words, plain_by, as_plain_init, element_at, init_ahead, init_in_at}
 use Rattle.read_items.specs.Globals.{Named, Contents, holding, tail_at, address_at, next_begins_at, else_at, by_name_at, named_contents_at, other_by, as_other_init, inner_limit, other_init_at_form, other_contents_at, ContentsForm, NameFirst, OtherFirst, contents_at_form, contents_ahead, with_init_at, bare_at, init_starts_by, init_starts, init_goes, contents_at}
-use Rattle.read_items.proofs.Inits.{found_by, plain_only, by_kind, plain_first, form_of_kind, form_begins, form_reads, init_in_reads}
-use Rattle.read_items.proofs.Words.{Tail, Pieces, from_tail, tail_reads}
+use Rattle.read_items.proofs.InitLaws.{found_by, plain_only, by_kind, plain_first, form_of_kind, form_begins, form_reads, init_in_reads}
+use Rattle.read_items.proofs.WordLaws.{Tail, Pieces, from_tail, tail_reads}
 use Rattle.read_items.proofs.Otherwise.{else_reads, first_only, second_only}
 
 -- ---- what stands behind commas begins with a comma, or is nothing

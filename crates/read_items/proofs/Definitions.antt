@@ -24,9 +24,9 @@ use Rattle.read_body.specs.Body.{body_at, label_goes, block_at, plain_goes, plai
 use Rattle.read_body.proofs.Laws.{body_reads, block_reads, block_first, blocks_reads, label_follows, other_no_end, plain_first}
 use Rattle.read_items.specs.Globals.{item_word_by, item_word_goes, kept_words_at, else_at}
 use Rattle.read_items.specs.Functions.{function_word_goes, heading_at, first_line, unlabelled_at, first_block_at, blocks_at, definition_at, declaration_at}
-use Rattle.read_items.proofs.Words.{kept_words_reads}
+use Rattle.read_items.proofs.WordLaws.{kept_words_reads}
 use Rattle.read_items.proofs.Otherwise.{else_reads}
-use Rattle.read_items.proofs.Functions.{Behind, groups_reads, params_reads, param_types_reads, attribute_first, mark_no_word}
+use Rattle.read_items.proofs.FunctionLaws.{Behind, groups_reads, params_reads, param_types_reads, attribute_first, mark_no_word}
 
 -- ---- the heading
 

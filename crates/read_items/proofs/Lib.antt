@@ -1,9 +1,10 @@
 pub mod Contents
 pub mod Definitions
-pub mod Functions
-pub mod Globals
-pub mod Inits
-pub mod Items
+pub mod FunctionLaws
+pub mod Gathered
+pub mod GlobalLaws
+pub mod InitLaws
+pub mod ItemLaws
 pub mod Modules
 pub mod Linked
 pub mod Only
@@ -11,4 +12,4 @@ pub mod Otherwise
 pub mod Rests
 pub mod Spelled
 pub mod Text
-pub mod Words
+pub mod WordLaws

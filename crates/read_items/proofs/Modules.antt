@@ -18,10 +18,10 @@ use Rattle.read_items.specs.Linked.{Linked, linked_at}
 use Rattle.read_items.specs.Globals.{Named, Contents, holding, inner_limit, init_goes, contents_at, ContentsForm, NameFirst, OtherFirst, global_item, global_at}
 use Rattle.read_items.specs.Items.{ItemForm, TypeForm, VariableForm, DefinitionForm, DeclarationForm, LineForm, item_ahead, item_goes, begun_at, item_at, items_at}
 use Rattle.read_items.proofs.Linked.{linked_takes, linked_halts, linked_step, linked_stops, put}
-use Rattle.read_items.proofs.Words.{Tail, LastTail}
+use Rattle.read_items.proofs.WordLaws.{Tail, LastTail}
 use Rattle.read_items.proofs.Contents.{Weak, Strong, Address, NextBegins, ByName, NamedContents, IsOtherInit, OtherForm, OtherContents, WithForm, WithInit, Bare, HoldsOf}
-use Rattle.read_items.proofs.Globals.{GlobalOf}
-use Rattle.read_items.proofs.Items.{Next, BegunOf, begun_reads, ItemOf, EndsItem, item_form_reads, item_begins, StepOf, item_reads}
+use Rattle.read_items.proofs.GlobalLaws.{GlobalOf}
+use Rattle.read_items.proofs.ItemLaws.{Next, BegunOf, begun_reads, ItemOf, EndsItem, item_form_reads, item_begins, StepOf, item_reads}
 
 -- ---- the grammar of a global, and the one that goes with the reading
 

@@ -19,12 +19,12 @@ use Rattle.read_items.specs.Linked.{link_goes, linked_at}
 use Rattle.read_items.specs.Globals.{item_word_goes, kept_words_at, Named, Contents, holding, init_goes, contents_at, ContentsForm, NameFirst, global_item, global_at}
 use Rattle.read_items.specs.Items.{as_item_name, ItemForm, TypeForm, VariableForm, DefinitionForm, DeclarationForm, LineForm, item_ahead, item_goes, begun_at, type_item_at, definition_item_at, declaration_item_at, line_item_at, variable_item_at, item_at_form, item_at, items_at}
 use Rattle.read_items.proofs.Linked.{linked_step, linked_stops, linked_fails, put}
-use Rattle.read_items.proofs.Words.{kept_words_reads, Tail, Pieces, from_tail}
+use Rattle.read_items.proofs.WordLaws.{kept_words_reads, Tail, Pieces, from_tail}
 use Rattle.read_items.proofs.Contents.{Weak, NextBegins, ByName, Bare, HoldsOf, WithInit, with_init_only, bare_only, holds_no_space, tail_stops, comma_starts_none}
-use Rattle.read_items.proofs.Globals.{constness_reads, constness_no_word, type_def_reads}
+use Rattle.read_items.proofs.GlobalLaws.{constness_reads, constness_no_word, type_def_reads}
 use Rattle.read_items.proofs.Modules.{EndOf, HoldsInit, HoldsNone, split_end}
-use Rattle.read_items.proofs.Items.{Next, ItemOf, item_begins, variable_ahead, item_name_tests, line_tests}
-use Rattle.read_items.proofs.Functions.{Behind}
+use Rattle.read_items.proofs.ItemLaws.{Next, ItemOf, item_begins, variable_ahead, item_name_tests, line_tests}
+use Rattle.read_items.proofs.FunctionLaws.{Behind}
 use Rattle.read_items.proofs.Definitions.{definition_reads, declaration_reads}
 use Rattle.read_items.proofs.Spelled.{step_shrinks}
 use Rattle.read_items.proofs.Rests.{weak_rest, space_rest, behind_rest, type_starts_none, function_starts_none, line_starts_none}

@@ -20,7 +20,7 @@ use Rattle.read_items.specs.Globals.{init_starts_by, init_starts, init_goes}
 use Rattle.read_items.specs.Functions.{function_words, function_word_goes}
 use Rattle.read_items.specs.Items.{ItemForm, DefinitionForm, DeclarationForm, item_form_words}
 use Rattle.read_items.proofs.Contents.{Weak, by_kind_starts}
-use Rattle.read_items.proofs.Functions.{Behind, kind_no_word, word_no_word}
+use Rattle.read_items.proofs.FunctionLaws.{Behind, kind_no_word, word_no_word}
 
 -- what an item begins with
 module _ (q : Option Lexeme → Bool) (local : (t : Lexeme) → t.kind ≡ Local → q (Some t) ≡ false) (word : (t : Lexeme) (form : ItemForm) → IsWordIn item_form_words t form → q (Some t) ≡ false) (passive : (t : Lexeme) → t.kind ≡ Passive → q (Some t) ≡ false) where

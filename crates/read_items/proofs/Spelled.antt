@@ -14,9 +14,9 @@ use Rattle.read_items.specs.Linked.{Linked, linked_at}
 use Rattle.read_items.specs.Globals.{Named, Contents, global_item}
 use Rattle.read_items.specs.Items.{ItemForm, TypeForm, VariableForm, DefinitionForm, DeclarationForm, LineForm, item_goes, item_at, items_at}
 use Rattle.read_items.proofs.Linked.{linked_takes, linked_halts}
-use Rattle.read_items.proofs.Words.{kept_words_reads}
+use Rattle.read_items.proofs.WordLaws.{kept_words_reads}
 use Rattle.read_items.proofs.Modules.{EndOf, IsBegun, EndsOr, holds_ends}
-use Rattle.read_items.proofs.Items.{Next, BegunOf, begun_reads, ItemOf, item_begins, StepOf, item_reads, global_first}
+use Rattle.read_items.proofs.ItemLaws.{Next, BegunOf, begun_reads, ItemOf, item_begins, StepOf, item_reads, global_first}
 
 -- ---- a global, and what is begun of the next
 

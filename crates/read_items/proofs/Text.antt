@@ -17,7 +17,7 @@ use Rattle.read_items.specs.Globals.{Named, holding, global_item}
 use Rattle.read_items.specs.Items.{item_goes, item_at, items_at, items_module_at, module_at}
 use Rattle.read_items.specs.Refused.{IsTokenRefusal}
 use Rattle.read_items.proofs.Linked.{linked_takes, linked_halts}
-use Rattle.read_items.proofs.Items.{Next, BegunOf, StepOf}
+use Rattle.read_items.proofs.ItemLaws.{Next, BegunOf, StepOf}
 use Rattle.read_items.proofs.Spelled.{linked_spelled, step_takes, step_halts, step_shrinks}
 use Rattle.read_items.proofs.Only.{items_only}
 

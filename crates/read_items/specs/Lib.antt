@@ -1,4 +1,5 @@
 pub mod Functions
+pub mod Gathered
 pub mod Globals
 pub mod Inits
 pub mod Items

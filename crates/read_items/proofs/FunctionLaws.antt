@@ -28,7 +28,7 @@ use Rattle.read_body.proofs.EndLaws.{text_reads, attachment_reads, is_meta_seen}
 use Rattle.read_body.proofs.Laws.{body_reads, block_reads, block_first, blocks_reads, label_follows, other_no_end}
 use Rattle.read_items.specs.Globals.{item_word_by, item_word_goes, kept_words_at, else_at}
 use Rattle.read_items.specs.Functions.{dollar_by, as_dollar, comdat_name_at, text_value_at, kept_group_by, as_kept_group, plain_word_at, text_word_at, section_at, comdat_at, aligned_word_at, attached_word_at, function_word_at_form, long_words, function_words, meta_form, function_word_of, function_word_ahead, function_word_goes, function_word_at, groups_at, some_local_at, local_goes, param_at, param_type_at, param_goes, heading_at, first_line, unlabelled_at, first_block_at, blocks_at, definition_at, declaration_at}
-use Rattle.read_items.proofs.Words.{kept_words_reads}
+use Rattle.read_items.proofs.WordLaws.{kept_words_reads}
 use Rattle.read_items.proofs.Otherwise.{else_reads}
 
 -- ---- single tokens

@@ -21,7 +21,7 @@ use Rattle.read_forms.proofs.TokenTests.{not_in, table_tests}
 use Rattle.read_forms.proofs.Lists.{mark_reads}
 use Rattle.read_forms.proofs.Laws.{word_reads, lined_local_reads, made_reads, type_reads}
 use Rattle.read_items.specs.Globals.{item_word_by, as_item_word, item_word_goes, kept_words_at, Named, Contents, holding, inner_limit, init_goes, contents_at, global_item, global_at, type_def_at}
-use Rattle.read_items.proofs.Words.{kept_words_reads, Tail, LastTail}
+use Rattle.read_items.proofs.WordLaws.{kept_words_reads, Tail, LastTail}
 use Rattle.read_items.proofs.Contents.{Weak, Strong, Address, NextBegins, NamedContents, IsOtherInit, OtherForm, OtherContents, WithForm, WithInit, Bare, HoldsOf, contents_reads, holds_no_space}
 
 -- ---- globals, with the name of the next one where that is begun

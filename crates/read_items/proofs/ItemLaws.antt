@@ -22,8 +22,8 @@ use Rattle.read_items.specs.Globals.{Named, global_at, type_def_at}
 use Rattle.read_items.specs.Functions.{definition_at, declaration_at}
 use Rattle.read_items.specs.Items.{item_name_by, no_llvm, as_item_name, is_passive, as_line, ItemForm, TypeForm, VariableForm, DefinitionForm, DeclarationForm, LineForm, item_form_words, word_or_line, item_form_of, item_ahead, item_goes, begun_at, type_item_at, variable_item_at, definition_item_at, declaration_item_at, line_item_at, item_at_form, item_at}
 use Rattle.read_items.proofs.Contents.{Strong}
-use Rattle.read_items.proofs.Globals.{GlobalOf, global_reads, type_def_reads}
-use Rattle.read_items.proofs.Functions.{Behind}
+use Rattle.read_items.proofs.GlobalLaws.{GlobalOf, global_reads, type_def_reads}
+use Rattle.read_items.proofs.FunctionLaws.{Behind}
 use Rattle.read_items.proofs.Definitions.{definition_reads, declaration_reads}
 
 -- ---- single tokens
