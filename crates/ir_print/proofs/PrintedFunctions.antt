@@ -14,10 +14,12 @@ use Rattle.ir_core.specs.Text.{is_word, name_text, type_text, inst_text, block_t
 use Rattle.ir_core.specs.FirstForm.{is_scalar}
 use Rattle.ir_core.specs.Lines.{inst_unlined, block_unlined, function_unlined, SameButLines}
 use Rattle.ir_core.specs.ReadsBack.{ReadsBack}
-use Rattle.ir_core.proofs.Printed.{comma, led_by_comma, Bare, bare, Lexed, Outer, label_lexed, space_lexed, line_lexed, open_lexed, close_lexed, outer_line, outer_word, outer_end, no_passive_d, EachGives, Closes, Inner, OnLines, EachInner, EachOnLines, listed, closes_as, gives_closes, closes_gives, closes_then, inner_then, inner_many, lines_many, closes_space, closes_mark, closes_word, closes_with_list, lexed_whole}
+use Rattle.text_laws.proofs.Joined.{comma, led_by_comma, EachGives, Closes, Inner, OnLines, EachInner, EachOnLines, listed, closes_as, gives_closes, closes_gives, closes_then, inner_then, inner_many, lines_many, closes_space, closes_mark, closes_word, closes_with_list}
+use Rattle.text_laws.proofs.Rows.{Bare, bare, Lexed, Outer, outer_end, lexed_whole}
+use Rattle.text_laws.proofs.Lexed.{label_lexed, space_lexed, line_lexed, open_lexed, close_lexed, outer_line, outer_word, no_passive_d}
 use Rattle.ir_print.proofs.PrintedOperands.{is_result, type_bare, plain_name, scalar_word, global_bare, local_bare, gives_scalar, gives_result, gives_local, gives_global, shows_scalar, shows_result, shows_local, shows_global}
 use Rattle.ir_print.proofs.PrintedInstructions.{inst_bare, GoodPlain, GoodLast, inst_closes, plain_spelled, last_spelled}
-use Rattle.ir_core.proofs.Spelled.{Spelled, Shows, EachSpelled, spelled_done, spelled_then, spelled_same, spelled_more, spelled_as, spelled_one, token_then, token_same, spelled_any, spelled_many, spelled_list_same, shows_word, shows_mark, shows_line}
+use Rattle.text_laws.proofs.Spelled.{Spelled, Shows, EachSpelled, spelled_done, spelled_then, spelled_same, spelled_more, spelled_as, spelled_one, token_then, token_same, spelled_any, spelled_many, spelled_list_same, shows_word, shows_mark, shows_line}
 
 -- ---- blocks
 

@@ -19,9 +19,10 @@ use Rattle.ir_core.specs.Spell.{any}
 use Rattle.ir_core.specs.Text.{is_word, type_text, value_text, typed_text, bin_op_text, pred_text, kind_text, target_text, result_text, inst_text}
 use Rattle.ir_core.specs.FirstForm.{is_scalar, is_add_sub_or_mul}
 use Rattle.ir_core.specs.Lines.{inst_unlined}
-use Rattle.ir_core.proofs.Printed.{gives_none, gives_of, gives_then, gives_closes, closes_gives, closes_then, inner_as, gives_inner, inner_line, closes_space, closes_comma, closes_mark, closes_word, closes_with_list, gives_word, Closes, Inner, Bare, bare, Gives, EachGives, comma, listed}
+use Rattle.text_laws.proofs.Joined.{gives_none, gives_of, gives_then, gives_closes, closes_gives, closes_then, inner_as, gives_inner, inner_line, closes_space, closes_comma, closes_mark, closes_word, closes_with_list, gives_word, Closes, Inner, Gives, EachGives, comma, listed}
+use Rattle.text_laws.proofs.Rows.{Bare, bare}
 use Rattle.ir_print.proofs.PrintedOperands.{gives_value_text, gives_scalar, gives_result, gives_local, gives_global, gives_typed, local_bare, is_result, type_bare, value_bare, typed_bare, GoodValue, GoodTyped, typed_spelled, shows_scalar, shows_result, shows_value, shows_local, shows_global}
-use Rattle.ir_core.proofs.Spelled.{Spelled, EachSpelled, spelled_done, spelled_then, spelled_same, token_then, token_same, spelled_any, spelled_one, spelled_more, spelled_as, shows_word, shows_mark, shows_in, shows_line, spelled_list_same}
+use Rattle.text_laws.proofs.Spelled.{Spelled, EachSpelled, spelled_done, spelled_then, spelled_same, token_then, token_same, spelled_any, spelled_one, spelled_more, spelled_as, shows_word, shows_mark, shows_in, shows_line, spelled_list_same}
 
 -- ---- what can be read back
 

@@ -16,10 +16,13 @@ use Rattle.ir_core.specs.Grammar.{scalar_types, result_types, IsScalarType, IsRe
 use Rattle.ir_core.specs.Text.{is_word, name_text, local_text, global_name_text, type_text, type_layer, integer_text, number_text, value_text, typed_text}
 use Rattle.ir_core.specs.FirstForm.{is_width, is_scalar, is_number_of}
 use Rattle.ir_print.proofs.Signed.{half_of}
-use Rattle.ir_core.proofs.Printed.{Gives, gives_word, closes_word, closes_gives, Bare, bare, Lexed, Ends, word_lexed, local_lexed, global_lexed, number_lexed, minus_lexed}
+use Rattle.text_laws.proofs.Joined.{Gives, gives_word, closes_word, closes_gives}
+use Rattle.text_laws.proofs.Rows.{Bare, bare, Lexed}
+use Rattle.text_laws.proofs.Endings.{Ends}
+use Rattle.text_laws.proofs.Lexed.{word_lexed, local_lexed, global_lexed, number_lexed, minus_lexed}
 use Rattle.ir_core.proofs.Runs.{if_true, if_false}
 use Rattle.ir_print.proofs.PrintedNumbers.{decimal_digits, plain_in_range, plain_kept, minus_in_range, minus_kept}
-use Rattle.ir_core.proofs.Spelled.{Spelled, Shows, spelled_done, token_same, shows_in}
+use Rattle.text_laws.proofs.Spelled.{Spelled, Shows, spelled_done, token_same, shows_in}
 
 -- ---- types
 

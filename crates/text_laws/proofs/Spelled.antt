@@ -3,7 +3,8 @@ use Rattle.std.proofs.Common.{◌≡◌, ℕ, List, [], ◌∷◌, ◌++◌, map
 use Rattle.std.specs.List.{flat_map}
 use Rattle.ir_core.specs.Tokens.{Word, Mark, Lexeme}
 use Rattle.ir_core.specs.Spell.{done, one, ◌>>=◌, any, many, InTable, IsWordIn, IsWord, IsMark, with_line, AtEnd, OneMore, after_comma, list_to}
-use Rattle.ir_core.proofs.Printed.{Bare, bare, bare_of, led_by_comma, listed}
+use Rattle.text_laws.proofs.Joined.{led_by_comma, listed}
+use Rattle.text_laws.proofs.Rows.{Bare, bare, bare_of}
 
 -- all tokens that are these, on whatever lines, spell something with the property
 pub record Spelled {X : Type 0} (S : List Lexeme → X → Type 0) (ls : List Bare) (P : X → Type 0) : Type 0 where
@@ -13,7 +14,7 @@ pub record Spelled {X : Type 0} (S : List Lexeme → X → Type 0) (ls : List Ba
 abbrev pub Shows : {X : Type 0} → (Lexeme → X → Type 0) → Bare → (X → Type 0) → Type 0
 Shows {X} Is b P = (t : Lexeme) → bare_of t ≡ b → (x : X) × Is t x × P x
 
-no_tokens : (ts : List Lexeme) → map bare_of ts ≡ [] → ts ≡ []
+pub no_tokens : (ts : List Lexeme) → map bare_of ts ≡ [] → ts ≡ []
 no_tokens [] e = refl
 no_tokens (t ∷ ts) e = absurd (cc)
 

@@ -1,0 +1,16 @@
+pub mod Back
+pub mod Endings
+pub mod Escaped
+pub mod Fine
+pub mod Good
+pub mod Joined
+pub mod Lexed
+pub mod LineFronts
+pub mod Names
+pub mod NumberTokens
+pub mod Numerals
+pub mod Quoted
+pub mod Rows
+pub mod Spelled
+pub mod Types
+pub mod Values
