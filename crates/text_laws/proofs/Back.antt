@@ -39,6 +39,20 @@ says_at show S e s = subst (λ z. Says (show z) S z) (sym e) s
 pub says_of : {X : Type 0} (show : X → List ℕ) (S : List Lexeme → X → Type 0) {x y : X} {a : List ℕ} → y ≡ x → show x ≡ a → Says a S x → Says (show y) S y
 says_of show S {x = x} e k s = says_at show S e (says_as S x (sym k) s)
 
+-- ---- rows of texts, grouped from the left and from the right
+
+abbrev pub chain : List ℕ → List (List ℕ) → List ℕ
+chain a [] = a
+chain a (b ∷ bs) = chain (a ++ b) bs
+
+abbrev pub row : List ℕ → List (List ℕ) → List ℕ
+row a [] = a
+row a (b ∷ bs) = a ++ row b bs
+
+pub flat : (a b : List ℕ) (bs : List (List ℕ)) → chain (a ++ b) bs ≡ a ++ row b bs
+flat a b [] = refl
+flat a b (c ∷ cs) = flat (a ++ b) c cs ∙ append_assoc a b (row c cs)
+
 -- ---- one behind the other
 
 pub says_done : {X : Type 0} (x : X) → Says [] (done x) x

@@ -9,8 +9,10 @@ pub mod LineFronts
 pub mod Names
 pub mod NumberTokens
 pub mod Numerals
+pub mod Orders
 pub mod Quoted
 pub mod Rows
 pub mod Spelled
 pub mod Types
+pub mod ValueKinds
 pub mod Values
