@@ -1,4 +1,6 @@
 pub mod Back
+pub mod Calls
+pub mod Effects
 pub mod Endings
 pub mod Escaped
 pub mod Fine
