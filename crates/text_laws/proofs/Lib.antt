@@ -5,6 +5,7 @@ pub mod Endings
 pub mod Escaped
 pub mod Fine
 pub mod Good
+pub mod Insts
 pub mod Joined
 pub mod Lexed
 pub mod LineFronts
