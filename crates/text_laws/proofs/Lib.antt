@@ -1,4 +1,5 @@
 pub mod Back
+pub mod Blocks
 pub mod Calls
 pub mod Effects
 pub mod Endings
