@@ -148,7 +148,7 @@ digits_bytes (suc k) n acc h =
     let m = digit_bytes n acc h in
     either_bytes (n / 10 == 0) (digit_glyph false (n % 10) ∷ acc) (digits_onto k 10 false (n / 10) (digit_glyph false (n % 10) ∷ acc)) m (digits_bytes k (n / 10) (digit_glyph false (n % 10) ∷ acc) m)
 
-decimal_bytes : (n : ℕ) → AreBytes (decimal n)
+pub decimal_bytes : (n : ℕ) → AreBytes (decimal n)
 unfolding digits
 decimal_bytes n = digits_bytes 64 n [] refl
 

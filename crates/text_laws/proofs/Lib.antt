@@ -1,10 +1,12 @@
 pub mod Back
 pub mod Blocks
 pub mod Calls
+pub mod Definitions
 pub mod Effects
 pub mod Endings
 pub mod Escaped
 pub mod Fine
+pub mod Functions
 pub mod Good
 pub mod Insts
 pub mod Joined
@@ -20,3 +22,4 @@ pub mod Spelled
 pub mod Types
 pub mod ValueKinds
 pub mod Values
+pub mod Words
