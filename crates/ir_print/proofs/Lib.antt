@@ -1,5 +1,4 @@
 pub mod Bodies
-pub mod Inits
 pub mod PrintedFunctions
 pub mod PrintedInstructions
 pub mod PrintedNumbers

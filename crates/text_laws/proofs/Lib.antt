@@ -7,7 +7,9 @@ pub mod Endings
 pub mod Escaped
 pub mod Fine
 pub mod Functions
+pub mod Globals
 pub mod Good
+pub mod InitTexts
 pub mod Insts
 pub mod Joined
 pub mod Lexed

@@ -35,7 +35,7 @@ name_stem x h = by_test (is_word x)
     (λ w. ap stem_name (if_true _ _ _ w) ∙ word_stem x w)
     (λ w. ap stem_name (if_false (is_word x) x (quoted x) w) ∙ quoted_back x h)
 
-drop_bytes : (xs : List ℕ) → AreBytes xs → AreBytes (drop 1 xs)
+pub drop_bytes : (xs : List ℕ) → AreBytes xs → AreBytes (drop 1 xs)
 drop_bytes [] h = refl
 drop_bytes (x ∷ xs) h = (every_first is_byte x xs h).1
 
