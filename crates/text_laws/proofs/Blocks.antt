@@ -1,5 +1,5 @@
 -- Blocks: what spells one is spelled by its canonical text, but for lines.
-use Rattle.std.proofs.Common.{◌≡◌, ℕ, zero, suc, ◌+◌, ◌-◌, ◌/◌, ◌%◌, ◌<◌, List, [], ◌∷◌, ◌++◌, append_assoc, map, Bool, true, false, cond, not, refl, sym, ap, ◌∙◌, subst, inl, inr, ◌⊎◌, arith, codes, decimal, ◌==◌, if◌then◌else◌}
+use Rattle.std.proofs.Common.{◌≡◌, ℕ, zero, suc, ◌+◌, ◌/◌, ◌%◌, List, [], ◌∷◌, ◌++◌, append_assoc, map, Bool, true, false, cond, refl, sym, ap, ◌∙◌, subst, arith, decimal, ◌==◌, if◌then◌else◌}
 use Rattle.std.specs.List.{flat_map, filter}
 use Rattle.std.proofs.lemmas.List.{append-nil}
 use Rattle.std.proofs.lemmas.Bool.{lt-ltb}
@@ -8,20 +8,19 @@ use Rattle.ir_core.specs.declared.instructions.Inst.{Inst}
 use Rattle.ir_core.specs.declared.module.Block.{Block}
 use Rattle.ir_core.specs.Formed.{is_byte}
 use Rattle.ir_core.specs.Tokens.{Lexeme}
-use Rattle.ir_core.specs.Spell.{many, with_line, one}
-use Rattle.ir_core.specs.Forms.{IsLabel}
+use Rattle.ir_core.specs.Spell.{many}
 use Rattle.ir_core.specs.Instructions.{plain, last, is_kept, body_of, block}
-use Rattle.ir_core.specs.Text.{name_text, inst_text, block_text}
+use Rattle.ir_core.specs.Text.{inst_text, block_text}
 use Rattle.ir_core.specs.Lines.{inst_unlined, block_unlined}
-use Rattle.ir_core.proofs.Runs.{by_test, if_true, if_false, every_more}
+use Rattle.ir_core.proofs.Runs.{if_true, every_more}
 use Rattle.text_laws.proofs.Rows.{Bare}
-use Rattle.text_laws.proofs.Joined.{Inner, inner_then, inner_as}
+use Rattle.text_laws.proofs.Joined.{Inner, inner_then}
 use Rattle.text_laws.proofs.Spelled.{Spelled, part, no_tokens, spelled_done, spelled_then, spelled_as, token_then, shows_line}
 use Rattle.text_laws.proofs.Good.{Good, AllGood, good_then, good_done, good_one, good_many}
 use Rattle.text_laws.proofs.Back.{Back}
 use Rattle.text_laws.proofs.Names.{AreBytes, label_bytes, label_bare, shows_label}
 use Rattle.text_laws.proofs.Quoted.{label_inner}
-use Rattle.text_laws.proofs.Insts.{Same, plain_back, last_back}
+use Rattle.text_laws.proofs.Insts.{plain_back, last_back}
 
 -- ---- one behind the other, but for lines
 
@@ -102,7 +101,7 @@ block_as name is end line = record { name = name; insts = is ++ end ∷ []; line
 block_same : (name other : List ℕ) (is js : List Inst) (end end2 : Inst) (line line2 : ℕ) → other ≡ name → map inst_unlined is ≡ map inst_unlined js → inst_unlined end ≡ inst_unlined end2 → AllKept is → block_unlined (block_as name is end line) ≡ block_unlined (block_as other (filter is_kept js) end2 line2)
 block_same name other is js end end2 line line2 p q r k =
     let e : map inst_unlined (is ++ end ∷ []) ≡ map inst_unlined (filter is_kept js ++ end2 ∷ []) =
-        map_last inst_unlined is end ∙ ap (λ l. l ++ inst_unlined end ∷ []) (q ∙ ap (map inst_unlined) (sym (like_kept is js q k))) ∙ ap (λ x. map inst_unlined (filter is_kept js) ++ x ∷ []) r ∙ sym (map_last inst_unlined (filter is_kept js) end2) in
+    map_last inst_unlined is end ∙ ap (λ l. l ++ inst_unlined end ∷ []) (q ∙ ap (map inst_unlined) (sym (like_kept is js q k))) ∙ ap (λ x. map inst_unlined (filter is_kept js) ++ x ∷ []) r ∙ sym (map_last inst_unlined (filter is_kept js) end2) in
     λ i. record { name = sym p i; insts = e i; line = 0 }
 
 -- a name of bytes, and instructions that are spelled

@@ -1,5 +1,5 @@
 -- Calls: what spells one is spelled by its canonical text.
-use Rattle.std.proofs.Common.{◌≡◌, ℕ, List, [], ◌∷◌, ◌++◌, append_assoc, map, Bool, true, false, refl, sym, ap, ◌∙◌, subst, inl, inr, ◌⊎◌, codes}
+use Rattle.std.proofs.Common.{◌≡◌, ℕ, List, [], ◌∷◌, ◌++◌, append_assoc, refl, sym, ap, ◌∙◌, subst, inl, inr, ◌⊎◌, codes}
 use Rattle.std.proofs.lemmas.List.{append-nil}
 use Rattle.ir_core.specs.declared.types.Ty.{Ty}
 use Rattle.ir_core.specs.declared.instructions.Value.{Value}
@@ -9,14 +9,13 @@ use Rattle.ir_core.specs.declared.instructions.TailWord.{TailWord}
 use Rattle.ir_core.specs.declared.instructions.TailWord.TheVariants.{Absent as NoTailWord, Tail, NoTail}
 use Rattle.ir_core.specs.declared.instructions.Kind.{Kind}
 use Rattle.ir_core.specs.declared.instructions.Kind.TheVariants.{Call}
-use Rattle.ir_core.specs.Tokens.{Lexeme}
-use Rattle.ir_core.specs.Spell.{◌>>=◌, done, one, any, word, mark, list_to, InTable, IsWordIn}
-use Rattle.ir_core.specs.Forms.{maybe, dropped, token, attributes, attribute_form, result_type, typed, IsOneOf}
+use Rattle.ir_core.specs.Spell.{one, any, InTable}
+use Rattle.ir_core.specs.Forms.{token, attribute_form, IsOneOf}
 use Rattle.ir_core.specs.Instructions.{argument, IsCallee, conventions, trailer_form, called, tail_words, CallForm, Bare, Led, call_form, call, value, assigned}
 use Rattle.ir_core.specs.Text.{type_text, value_text, typed_text, typed_texts, tail_text, comma_list, kind_text}
 use Rattle.text_laws.proofs.Good.{Good, good_then, good_done, good_one, good_any, good_either, good_list}
 use Rattle.text_laws.proofs.Back.{flat, Says, Ended, says_as, says_at, says_done, says_then, says_last, says_after, empty_maybe, empty_dropped, says_space, says_mark, says_word, says_any, all_say, says_closed, says_left, says_right}
-use Rattle.text_laws.proofs.Names.{says_token, gives_local, gives_global, shows_local, shows_global, local_bytes, global_bytes, WordsAre, in_table, table_says}
+use Rattle.text_laws.proofs.Names.{says_token, gives_local, gives_global, shows_local, shows_global, local_bytes, global_bytes, WordsAre, table_says}
 use Rattle.text_laws.proofs.Types.{type_says, type_sized, result_says}
 use Rattle.text_laws.proofs.Values.{value_says}
 use Rattle.text_laws.proofs.ValueKinds.{value_kind_says}
@@ -68,7 +67,7 @@ called_says t k g =
     let kind = Call t a.value b.value c.value in
     let list = comma_list (typed_texts c.value) in
     let text : kind_text kind ≡ tail_text t ++ (codes "call" ++ (codes " " ++ (type_text a.value ++ (codes " " ++ (value_text a.value b.value ++ (codes "(" ++ (list ++ codes ")"))))))) =
-        flat (tail_text t) (codes "call ") (type_text a.value ∷ codes " " ∷ value_text a.value b.value ∷ codes "(" ∷ list ∷ codes ")" ∷ []) in
+    flat (tail_text t) (codes "call ") (type_text a.value ∷ codes " " ∷ value_text a.value b.value ∷ codes "(" ∷ list ∷ codes ")" ∷ []) in
     subst (Called t) (sym (good_done r.rest)) (record {
       body = codes " " ++ (type_text a.value ++ (codes " " ++ (value_text a.value b.value ++ (codes "(" ++ ((list ++ codes ")") ++ [])))));
       text = text ∙ ap (λ x. tail_text t ++ (codes "call" ++ (codes " " ++ (type_text a.value ++ (codes " " ++ (value_text a.value b.value ++ (codes "(" ++ x))))))) (sym (append-nil (list ++ codes ")")));

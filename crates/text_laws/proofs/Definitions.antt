@@ -1,28 +1,27 @@
 -- Definitions and declarations: what spells one is spelled by its canonical text, but for lines.
-use Rattle.std.proofs.Common.{◌≡◌, ℕ, ◌+◌, List, [], ◌∷◌, ◌++◌, append_assoc, map, Option, Some, None, true, refl, sym, ap, ◌∙◌, subst, inl, inr, ◌⊎◌, codes}
+use Rattle.std.proofs.Common.{◌≡◌, ℕ, List, [], ◌∷◌, ◌++◌, append_assoc, map, None, refl, sym, ap, subst, inl, inr, ◌⊎◌, codes}
 use Rattle.std.specs.List.{flat_map}
 use Rattle.std.proofs.lemmas.List.{append-nil}
-use Rattle.ir_core.specs.declared.types.Ty.{Ty}
 use Rattle.ir_core.specs.declared.module.Block.{Block}
 use Rattle.ir_core.specs.declared.module.Param.{Param}
 use Rattle.ir_core.specs.declared.module.Function.{Function}
 use Rattle.ir_core.specs.Tokens.{Word, Mark, Lexeme}
-use Rattle.ir_core.specs.Spell.{◌>>=◌, done, one, any, many, mark, word, list_to}
-use Rattle.ir_core.specs.Forms.{attribute_form, type_}
-use Rattle.ir_core.specs.Instructions.{body_of, block}
+use Rattle.ir_core.specs.Spell.{any, list_to}
+use Rattle.ir_core.specs.Forms.{attribute_form}
+use Rattle.ir_core.specs.Instructions.{block}
 use Rattle.ir_core.specs.Language.{next_number, name_or, Unnumbered, params_behind, param_name, groups, param, param_type, Heading, heading, unlabelled, first_block, blocks, function_item, definition, declaration}
-use Rattle.ir_core.specs.Text.{type_text, comma_list, all_led, param_text, param_type_text, heading_text, block_text, function_text}
+use Rattle.ir_core.specs.Text.{type_text, comma_list, param_text, param_type_text, block_text, function_text}
 use Rattle.ir_core.specs.Lines.{block_unlined, function_unlined}
 use Rattle.text_laws.proofs.Rows.{Bare, bare, Lexed, Outer}
 use Rattle.text_laws.proofs.Lexed.{space_lexed, line_lexed, open_lexed, close_lexed, outer_line, outer_word, no_passive_d}
-use Rattle.text_laws.proofs.Joined.{Gives, Closes, Inner, OnLines, inner_then}
+use Rattle.text_laws.proofs.Joined.{Gives, Inner, OnLines, inner_then}
 use Rattle.text_laws.proofs.Spelled.{Spelled, spelled_done, spelled_then, spelled_same, spelled_as, token_then, shows_word, shows_mark}
 use Rattle.text_laws.proofs.Good.{Good, AllGood, good_then, good_done, good_either, good_many, good_list}
-use Rattle.text_laws.proofs.Back.{Back, Says, AllSay, says_at, says_last, says_after, empty_dropped, says_closed}
+use Rattle.text_laws.proofs.Back.{Back, Says, AllSay, says_at, empty_dropped, says_closed}
 use Rattle.text_laws.proofs.Types.{type_says}
 use Rattle.text_laws.proofs.Blocks.{Like, AllLike, all_like, inner_like, block_back, unlabelled_back}
 use Rattle.text_laws.proofs.Words.{groups_says}
-use Rattle.text_laws.proofs.Functions.{heading_start, heading_back, heading_whole, heading_gives, AllParams, params_good, present, params_same, params_says}
+use Rattle.text_laws.proofs.Functions.{heading_back, heading_whole, heading_gives, AllParams, params_good, present, params_same, params_says}
 
 -- ---- bodies
 
@@ -118,7 +117,7 @@ define_by line h ps gs b bs gh gp gg body =
           (spelled_same {ls = z.tokens} {ms = lb} {v = gs} {Q = Q} z.spelled
           (spelled_as (append-nil lb) (spelled_then {ls = lb} {ms = []} {Q = Q} (body.spelled (next_number (map param_name (params_behind [] (map present ps))))) (λ ys q.
           spelled_done (function_item l h (params_behind [] (map present ps)) gs ys) Q
-            (λ i. record { name = h.name; words = h.words; ret = h.result; params = sym (params_same [] ps) i; groups = gs; blocks = q i; line = 0 }))))))));
+          (λ i. record { name = h.name; words = h.words; ret = h.result; params = sym (params_same [] ps) i; groups = gs; blocks = q i; line = 0 }))))))));
     }
 
 pub definition_back : (f : Function) → Good definition f → FunctionLike f definition

@@ -1,17 +1,16 @@
 -- Instructions without a value, and those that end a block: what spells one is spelled by its canonical text.
-use Rattle.std.proofs.Common.{◌≡◌, ℕ, List, [], ◌∷◌, ◌++◌, append_assoc, map, Option, Some, None, refl, sym, ap, ◌∙◌, subst, inl, inr, ◌⊎◌, codes}
-use Rattle.std.proofs.lemmas.List.{append-nil}
+use Rattle.std.proofs.Common.{◌≡◌, ℕ, List, [], ◌∷◌, ◌++◌, append_assoc, map, Some, None, refl, sym, ap, ◌∙◌, inl, inr, ◌⊎◌, codes}
 use Rattle.ir_core.specs.declared.instructions.Case.{Case}
 use Rattle.ir_core.specs.declared.instructions.Kind.{Kind}
 use Rattle.ir_core.specs.declared.instructions.Kind.TheVariants.{Store, Fence, Br, CondBr, Switch, Ret, Unreachable}
 use Rattle.ir_core.specs.Tokens.{Lexeme}
-use Rattle.ir_core.specs.Spell.{◌>>=◌, done, one, any, many, word, mark}
-use Rattle.ir_core.specs.Forms.{typed, next, target}
+use Rattle.ir_core.specs.Spell.{◌>>=◌, done, any, many, word}
+use Rattle.ir_core.specs.Forms.{typed}
 use Rattle.ir_core.specs.Instructions.{stored, fenced, case, BranchForm, Straight, Tested, branch_form, switched, returned, LastForm, Branches, Switches, Returns, Stops, last_form}
-use Rattle.ir_core.specs.Text.{typed_text, target_text, word_if, align_text, atomic_text, ordering_text, order_text, case_text, kind_text, in_spaces, all_led, parted}
-use Rattle.text_laws.proofs.Joined.{gives_of, gives_then, closes_space, closes_mark}
-use Rattle.text_laws.proofs.Good.{Good, AllGood, good_then, good_done, good_any, good_either, good_many}
-use Rattle.text_laws.proofs.Back.{flat, Says, Ended, AllSay, says_as, says_at, says_done, says_then, says_last, says_space, says_comma, says_mark, says_word, says_any, all_say, says_nil, says_spaced, spelled_cons, led_ended, spaced_gives, says_left, says_right}
+use Rattle.ir_core.specs.Text.{typed_text, target_text, word_if, align_text, atomic_text, ordering_text, order_text, case_text, kind_text, in_spaces}
+use Rattle.text_laws.proofs.Joined.{gives_then}
+use Rattle.text_laws.proofs.Good.{Good, good_then, good_done, good_any, good_either, good_many}
+use Rattle.text_laws.proofs.Back.{flat, Says, AllSay, says_as, says_at, says_done, says_then, says_last, says_space, says_comma, says_mark, says_word, says_any, all_say, says_nil, says_spaced, spelled_cons, led_ended, spaced_gives, says_left, says_right}
 use Rattle.text_laws.proofs.Values.{typed_says, target_says}
 use Rattle.text_laws.proofs.Orders.{ended_then, flag_says, flag_ended, align_ended, align_says, order_says, access_says}
 use Rattle.text_laws.proofs.ValueKinds.{good_next, Behind, behind_at}

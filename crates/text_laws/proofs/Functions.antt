@@ -1,28 +1,22 @@
 -- Functions: what spells one is spelled by its canonical text, but for lines.
-use Rattle.std.proofs.Common.{◌≡◌, ℕ, ◌+◌, List, [], ◌∷◌, ◌++◌, append_assoc, length, map, Option, Some, None, true, refl, sym, ap, ◌∙◌, subst, inl, inr, ◌⊎◌, codes, decimal}
-use Rattle.std.specs.List.{flat_map, filter}
+use Rattle.std.proofs.Common.{◌≡◌, ℕ, List, [], ◌∷◌, ◌++◌, append_assoc, length, map, Option, Some, None, refl, sym, ap, subst, inl, inr, ◌⊎◌, codes}
+use Rattle.std.specs.List.{filter}
 use Rattle.std.proofs.lemmas.List.{append-nil}
-use Rattle.ir_core.specs.declared.types.Ty.{Ty}
-use Rattle.ir_core.specs.declared.module.Block.{Block}
 use Rattle.ir_core.specs.declared.module.Param.{Param}
-use Rattle.ir_core.specs.declared.module.Function.{Function}
-use Rattle.ir_core.specs.Tokens.{Word, Mark, Lexeme}
-use Rattle.ir_core.specs.Spell.{◌>>=◌, done, one, any, many, mark, word, list_to}
-use Rattle.ir_core.specs.Forms.{maybe, attribute_form, attributes, type_, IsLocal}
-use Rattle.ir_core.specs.Instructions.{body_of, block}
-use Rattle.ir_core.specs.Language.{is_numeral, next_number, name_or, Unnumbered, params_behind, param_name, groups, some_local, param, param_type, Heading, heading, unlabelled, first_block, blocks, function_item, definition, declaration}
-use Rattle.ir_core.specs.Text.{type_text, local_text, global_name_text, spaced_words, comma_list, all_led, param_text, param_type_text, heading_text, block_text, function_text}
-use Rattle.ir_core.specs.Lines.{block_unlined, function_unlined}
-use Rattle.text_laws.proofs.Rows.{Bare, bare, Lexed, Outer}
-use Rattle.text_laws.proofs.Lexed.{space_lexed, line_lexed, open_lexed, close_lexed, outer_line, outer_word, no_passive_d}
-use Rattle.text_laws.proofs.Joined.{Gives, Closes, Inner, OnLines, closes_as, gives_closes, closes_gives, closes_then, closes_space, closes_mark, gives_then, inner_then}
-use Rattle.text_laws.proofs.Spelled.{Spelled, spelled_done, spelled_then, spelled_same, spelled_as, token_then, shows_word, shows_mark}
-use Rattle.text_laws.proofs.Good.{Good, AllGood, good_then, good_done, good_one, good_either, good_maybe, good_many, good_list}
-use Rattle.text_laws.proofs.Back.{Back, Says, AllSay, flat, says_as, says_at, says_then, says_last, says_after, empty_maybe, empty_dropped, says_space, says_right, all_say, says_closed, led_ended}
-use Rattle.text_laws.proofs.Names.{AreBytes, local_bytes, global_bytes, global_bare, local_bare, gives_local, gives_global, shows_local, shows_global, local_says, says_token}
+use Rattle.ir_core.specs.Tokens.{Mark}
+use Rattle.ir_core.specs.Spell.{done, any, list_to}
+use Rattle.ir_core.specs.Forms.{maybe, attribute_form, type_}
+use Rattle.ir_core.specs.Language.{is_numeral, next_number, name_or, Unnumbered, params_behind, some_local, param, Heading, heading}
+use Rattle.ir_core.specs.Text.{type_text, local_text, global_name_text, spaced_words, comma_list, all_led, param_text}
+use Rattle.text_laws.proofs.Rows.{Bare, bare}
+use Rattle.text_laws.proofs.Joined.{Gives, Closes, gives_closes, closes_gives, closes_then, closes_space, closes_mark, gives_then}
+use Rattle.text_laws.proofs.Spelled.{spelled_done, spelled_same, spelled_as, token_then, shows_mark}
+use Rattle.text_laws.proofs.Good.{Good, AllGood, good_then, good_done, good_one, good_maybe}
+use Rattle.text_laws.proofs.Back.{Back, Says, AllSay, says_last, empty_dropped, says_right, says_closed, led_ended}
+use Rattle.text_laws.proofs.Names.{AreBytes, local_bytes, global_bytes, global_bare, gives_local, gives_global, shows_local, shows_global, says_token}
 use Rattle.text_laws.proofs.Types.{type_says, result_says}
-use Rattle.text_laws.proofs.Blocks.{Like, AllLike, all_like, inner_like, block_back, unlabelled_back, decimal_bytes}
-use Rattle.text_laws.proofs.Words.{words_back, groups_says}
+use Rattle.text_laws.proofs.Blocks.{decimal_bytes}
+use Rattle.text_laws.proofs.Words.{words_back}
 
 -- ---- headings
 

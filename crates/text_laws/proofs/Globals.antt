@@ -1,5 +1,5 @@
 -- Initializers, globals and type definitions: what spells one is spelled by its canonical text, but for lines.
-use Rattle.std.proofs.Common.{◌≡◌, ℕ, zero, suc, ◌+◌, ◌<◌, List, [], ◌∷◌, ◌++◌, append_assoc, length, drop, map, Option, Some, None, Bool, true, false, refl, sym, ap, ◌∙◌, subst, inl, inr, ◌⊎◌, arith, codes}
+use Rattle.std.proofs.Common.{◌≡◌, ℕ, zero, suc, ◌<◌, List, [], ◌∷◌, ◌++◌, append_assoc, length, drop, Option, Some, None, Bool, false, refl, sym, ap, ◌∙◌, subst, inl, inr, ◌⊎◌, arith, codes}
 use Rattle.std.proofs.lemmas.List.{append-nil}
 use Rattle.ir_core.specs.declared.types.Ty.{Ty}
 use Rattle.ir_core.specs.declared.instructions.Value.TheVariants.{Int as IntValue}
@@ -11,17 +11,17 @@ use Rattle.ir_core.specs.declared.module.Element.{Element}
 use Rattle.ir_core.specs.Escapes.{quoted_bytes}
 use Rattle.ir_core.specs.Tokens.{TokenKind, Word, Mark, Local, Global, CText, Bad, Lexeme}
 use Rattle.ir_core.specs.Scan.{passive_size}
-use Rattle.ir_core.specs.Spell.{◌>>=◌, done, one, any, many, mark, word, with_line, IsWord, IsWordIn, list_to}
-use Rattle.ir_core.specs.Forms.{maybe, next, IsLocal, IsGlobal, IsItemName, IsValue, type_, nesting_limit, begins_with_llvm}
+use Rattle.ir_core.specs.Spell.{done, one, IsWordIn}
+use Rattle.ir_core.specs.Forms.{maybe, next, IsItemName, IsValue, type_, nesting_limit, begins_with_llvm}
 use Rattle.ir_core.specs.Instructions.{next_alignment}
 use Rattle.ir_core.specs.Language.{IsPlainInit, InitForm, PlainInit, SquareInit, BracesInit, element_of, init_form, no_element, init_in, some_init, constness, section_word, comdat_word, kept_words, global, type_def}
-use Rattle.ir_core.specs.Text.{name_text, quoted, type_text, number_text, local_text, global_name_text, init_text, initial_text, spaced_words, constness_text, align_text, in_spaces, global_text, type_def_text}
+use Rattle.ir_core.specs.Text.{name_text, quoted, type_text, number_text, local_text, global_name_text, init_text, initial_text, spaced_words, constness_text, align_text, global_text, type_def_text}
 use Rattle.ir_core.specs.Lines.{type_unlined, global_unlined}
-use Rattle.text_laws.proofs.Rows.{Bare, bare, Lexed, Outer, NoBrace}
+use Rattle.text_laws.proofs.Rows.{Bare, bare, Outer, NoBrace}
 use Rattle.text_laws.proofs.Endings.{Ends}
 use Rattle.text_laws.proofs.Lexed.{outer_line}
 use Rattle.text_laws.proofs.Joined.{Gives, OnLines, closes_gives, gives_then, closes_space, closes_mark, gives_word}
-use Rattle.text_laws.proofs.Spelled.{Spelled, Shows, spelled_done, spelled_then, spelled_same, spelled_as, token_then, shows_word, shows_mark, shows_line}
+use Rattle.text_laws.proofs.Spelled.{Shows, spelled_done, spelled_same, spelled_as, token_then, shows_word, shows_mark, shows_line}
 use Rattle.text_laws.proofs.Escaped.{quoted_back, quoted_are_bytes, stem_bytes}
 use Rattle.text_laws.proofs.Quoted.{Begins, begins_gives, begins_outer, local_begins, global_begins, c_text_begins}
 use Rattle.text_laws.proofs.LineFronts.{local_no_passive, global_no_passive}
@@ -96,12 +96,11 @@ initial_ended ty (Some init) = λ rest e. refl
 -- ---- lines that begin with a name
 
 named_lines : (kind : TokenKind) (front b : List ℕ) (lb : List Bare) → NoBrace kind front → 0 < length front → (Some kind ≡ Some Bad → ⊥) → Begins kind front → ((rest : List ℕ) → Ends rest → passive_size (front ++ rest) ≡ 0) → Gives (32 ∷ b) lb → OnLines (front ++ ((32 ∷ b) ++ codes "\n")) (bare kind front ∷ lb)
-named_lines kind front b lb n l g h z x = record { before = λ rest ms o.
-    subst (λ t. Outer t (bare kind front ∷ (lb ++ ms))) (sym (append_assoc front ((32 ∷ b) ++ codes "\n") rest ∙ ap (λ t. front ++ t) (append_assoc (32 ∷ b) (codes "\n") rest)))
-    (begins_outer kind front ((32 ∷ b) ++ 10 ∷ rest) (lb ++ ms) n l g h refl (z ((32 ∷ b) ++ 10 ∷ rest) refl) (x.before 0 (10 ∷ rest) ms refl (outer_line rest ms o))) }
-
-
-
+named_lines kind front b lb n l g h z x = record {
+  before = λ rest ms o.
+      subst (λ t. Outer t (bare kind front ∷ (lb ++ ms))) (sym (append_assoc front ((32 ∷ b) ++ codes "\n") rest ∙ ap (λ t. front ++ t) (append_assoc (32 ∷ b) (codes "\n") rest)))
+      (begins_outer kind front ((32 ∷ b) ++ 10 ∷ rest) (lb ++ ms) n l g h refl (z ((32 ∷ b) ++ 10 ∷ rest) refl) (x.before 0 (10 ∷ rest) ms refl (outer_line rest ms o)));
+}
 
 -- ---- type definitions
 

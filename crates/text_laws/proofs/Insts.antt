@@ -1,21 +1,21 @@
 -- Instructions with their results and lines: what spells one is spelled by its canonical text, but for the line.
-use Rattle.std.proofs.Common.{◌≡◌, ℕ, ◌+◌, List, [], ◌∷◌, ◌++◌, append_assoc, Option, Some, None, true, refl, sym, ap, ◌∙◌, subst, inl, inr, ◌⊎◌, codes}
+use Rattle.std.proofs.Common.{◌≡◌, ℕ, List, [], ◌∷◌, ◌++◌, append_assoc, Option, Some, None, true, refl, sym, ap, ◌∙◌, subst, codes}
 use Rattle.std.proofs.lemmas.List.{append-nil}
 use Rattle.ir_core.specs.declared.instructions.Kind.{Kind}
 use Rattle.ir_core.specs.declared.instructions.Inst.{Inst}
 use Rattle.ir_core.specs.declared.instructions.TailWord.{TailWord}
 use Rattle.ir_core.specs.declared.instructions.TailWord.TheVariants.{Absent as NoTailWord}
 use Rattle.ir_core.specs.Tokens.{Word, Mark, Lexeme}
-use Rattle.ir_core.specs.Spell.{◌>>=◌, done, one, any, word, with_line, IsWordIn, InTable}
-use Rattle.ir_core.specs.Forms.{next, IsLocal}
-use Rattle.ir_core.specs.Instructions.{attachment, attachments, at_line, called, tail_words, stored, fenced, assigned, PlainForm, Assigns, Stores, Fences, Calls, TailCalls, plain_form, plain, LastForm, last_words, last_form, last}
+use Rattle.ir_core.specs.Spell.{◌>>=◌, done, word, InTable}
+use Rattle.ir_core.specs.Forms.{next}
+use Rattle.ir_core.specs.Instructions.{attachment, at_line, called, tail_words, stored, fenced, assigned, PlainForm, Assigns, Stores, Fences, Calls, TailCalls, plain_form, plain, LastForm, last_words, last_form, last}
 use Rattle.ir_core.specs.Text.{is_word, local_text, result_text, kind_text, inst_text}
 use Rattle.ir_core.specs.Lines.{inst_unlined}
 use Rattle.text_laws.proofs.Rows.{Bare, bare}
 use Rattle.text_laws.proofs.Joined.{Gives, Inner, gives_then, closes_gives, closes_then, closes_space, closes_mark, gives_word, gives_inner, inner_of, inner_then, inner_line, inner_as}
-use Rattle.text_laws.proofs.Spelled.{Spelled, Shows, spelled_done, spelled_then, spelled_as, spelled_any, token_then, shows_word, shows_mark, shows_in, shows_line}
-use Rattle.text_laws.proofs.Good.{Good, Stands, good_then, good_done, good_one, good_any}
-use Rattle.text_laws.proofs.Back.{Back, Says, Ended, Empty, empty_dropped, says_word}
+use Rattle.text_laws.proofs.Spelled.{Spelled, spelled_done, spelled_then, spelled_as, spelled_any, token_then, shows_word, shows_mark, shows_in, shows_line}
+use Rattle.text_laws.proofs.Good.{Good, good_then, good_done, good_one, good_any}
+use Rattle.text_laws.proofs.Back.{Back, Says, Ended, empty_dropped}
 use Rattle.text_laws.proofs.Names.{AreBytes, local_bytes, local_bare, gives_local, shows_local, WordsAre, in_table}
 use Rattle.text_laws.proofs.ValueKinds.{Behind}
 use Rattle.text_laws.proofs.Calls.{Called, called_says, tail_word_text, tails_are, tail_called, assigned_says}

@@ -11,9 +11,11 @@ pub mod Globals
 pub mod Good
 pub mod InitTexts
 pub mod Insts
+pub mod Items
 pub mod Joined
 pub mod Lexed
 pub mod LineFronts
+pub mod Modules
 pub mod Names
 pub mod NumberTokens
 pub mod Numerals

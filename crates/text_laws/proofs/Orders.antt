@@ -1,13 +1,13 @@
 -- What stands at many instructions: flags, orders and alignments.
-use Rattle.std.proofs.Common.{◌≡◌, ℕ, ◌+◌, ◌^◌, ◌≤◌, ◌<◌, List, [], ◌∷◌, ◌++◌, append_assoc, Option, Some, None, Bool, true, false, refl, sym, ap, ◌∙◌, subst, inl, inr, ◌⊎◌, arith, codes, decimal, ◌==◌, if◌then◌else◌}
+use Rattle.std.proofs.Common.{◌≡◌, ℕ, ◌^◌, List, [], ◌∷◌, ◌++◌, append_assoc, Option, Some, None, Bool, true, false, refl, sym, ap, ◌∙◌, subst, inl, inr, ◌⊎◌, arith, codes, decimal, ◌==◌, if◌then◌else◌}
 use Rattle.std.proofs.lemmas.Bool.{eqb-true}
 use Rattle.std.proofs.lemmas.List.{append-nil}
 use Rattle.ir_core.specs.declared.instructions.Flags.{Flags}
 use Rattle.ir_core.specs.declared.instructions.Order.{Order}
-use Rattle.ir_core.specs.Tokens.{Word, Lexeme}
-use Rattle.ir_core.specs.Spell.{◌>>=◌, done, one, word, IsWordIn}
-use Rattle.ir_core.specs.Forms.{maybe, next, alignment, IsNatural}
-use Rattle.ir_core.specs.Instructions.{next_alignment, flag, wrap_flags, exact_flag, no_flags, orders, scope, order, some_order, order_if}
+use Rattle.ir_core.specs.Tokens.{Word}
+use Rattle.ir_core.specs.Spell.{◌>>=◌, done, word}
+use Rattle.ir_core.specs.Forms.{next, alignment}
+use Rattle.ir_core.specs.Instructions.{next_alignment, flag, wrap_flags, exact_flag, no_flags, orders, scope, order, order_if}
 use Rattle.ir_core.specs.Text.{is_word, word_if, flags_text, align_text, order_text, ordering_text, atomic_text}
 use Rattle.ir_core.proofs.Runs.{by_test, if_true, if_false}
 use Rattle.text_laws.proofs.Rows.{bare}

@@ -1,8 +1,6 @@
 -- Instructions that give a value, but for calls: what spells one is spelled by its canonical text.
-use Rattle.std.proofs.Common.{◌≡◌, ℕ, List, [], ◌∷◌, ◌++◌, append_assoc, map, Option, Some, None, Bool, true, false, refl, sym, ap, ◌∙◌, subst, codes}
+use Rattle.std.proofs.Common.{◌≡◌, ℕ, List, [], ◌∷◌, ◌++◌, append_assoc, map, Bool, true, false, refl, sym, ap, ◌∙◌, subst, codes}
 use Rattle.ir_core.specs.declared.types.Ty.{Ty}
-use Rattle.ir_core.specs.declared.instructions.Value.{Value}
-use Rattle.ir_core.specs.declared.instructions.Typed.{Typed}
 use Rattle.ir_core.specs.declared.instructions.Edge.{Edge}
 use Rattle.ir_core.specs.declared.instructions.BinOp.{BinOp}
 use Rattle.ir_core.specs.declared.instructions.CastOp.{CastOp}
@@ -10,16 +8,16 @@ use Rattle.ir_core.specs.declared.instructions.Flags.{Flags}
 use Rattle.ir_core.specs.declared.instructions.Kind.{Kind}
 use Rattle.ir_core.specs.declared.instructions.Kind.TheVariants.{Bin, ICmp, Cast, Select, Phi, Alloca, Load, Rmw, Gep}
 use Rattle.ir_core.specs.Tokens.{Lexeme}
-use Rattle.ir_core.specs.Spell.{◌>>=◌, done, one, many, IsWordIn}
+use Rattle.ir_core.specs.Spell.{done}
 use Rattle.ir_core.specs.Forms.{typed, next}
 use Rattle.ir_core.specs.Instructions.{binary, wrap_flags, exact_flag, no_flags, predicates, changes, edge, ValueForm, Wraps, Divides, Mixes, Compares, Casts, Selects, Phis, Allocas, Loads, Changes, Steps, value_words, value_form, value}
 use Rattle.ir_core.specs.Text.{type_text, value_text, typed_text, local_text, bin_op_text, flags_text, pred_text, cast_text, rmw_text, order_text, word_if, align_text, atomic_text, ordering_text, edge_text, kind_text, all_led}
-use Rattle.text_laws.proofs.Good.{Good, Parts, AllGood, good_then, good_done, good_many, all_behind}
+use Rattle.text_laws.proofs.Good.{Good, good_then, good_done, good_many, all_behind}
 use Rattle.text_laws.proofs.Back.{flat, Says, Ended, says_as, says_at, says_done, says_then, says_last, says_space, says_comma, says_mark, says_word, all_say, says_commas, led_ended}
 use Rattle.text_laws.proofs.Names.{local_says, WordsAre, table_says}
 use Rattle.text_laws.proofs.Types.{IsSized, type_says, type_sized}
 use Rattle.text_laws.proofs.Values.{value_says, typed_says}
-use Rattle.text_laws.proofs.Orders.{ended_then, flag_says, flag_ended, flags_ended, wrap_says, exact_says, no_flags_says, align_ended, align_says, order_says, AccessSays, access_says}
+use Rattle.text_laws.proofs.Orders.{ended_then, flag_says, flag_ended, flags_ended, wrap_says, exact_says, no_flags_says, align_ended, align_says, order_says, access_says}
 
 -- what a text spells behind a comma
 pub good_next : {X : Type 0} {S : List Lexeme → X → Type 0} {x : X} → Good (next S) x → Good S x
@@ -220,9 +218,59 @@ form_behind Changes k g = change_says k g
 form_behind Steps k g = step_says k g
 
 words_are : WordsAre form_word value_words
-words_are =
-    (refl, refl, (refl, refl, (refl, refl, (refl, refl, (refl, refl, (refl, refl, (refl, refl, (refl, refl, (refl, refl, (refl, refl, (refl, refl, (refl, refl, (refl, refl,
-    (refl, refl, (refl, refl, (refl, refl, (refl, refl, (refl, refl, (refl, refl, (refl, refl, (refl, refl, (refl, refl, (refl, refl, (refl, refl, (refl, refl, tt)))))))))))))))))))))))))
+words_are = (
+  refl,
+  refl,
+  (
+    refl,
+    refl,
+    (
+      refl,
+      refl,
+      (
+        refl,
+        refl,
+        (
+          refl,
+          refl,
+          (
+            refl,
+            refl,
+            (
+              refl,
+              refl,
+              (
+                refl,
+                refl,
+                (
+                  refl,
+                  refl,
+                  (
+                    refl,
+                    refl,
+                    (
+                      refl,
+                      refl,
+                      (
+                        refl,
+                        refl,
+                        (
+                          refl,
+                          refl,
+                          (refl, refl, (refl, refl, (refl, refl, (refl, refl, (refl, refl, (refl, refl, (refl, refl, (refl, refl, (refl, refl, (refl, refl, (refl, refl, (refl, refl, tt)))))))))))),
+                        ),
+                      ),
+                    ),
+                  ),
+                ),
+              ),
+            ),
+          ),
+        ),
+      ),
+    ),
+  ),
+)
 
 -- what gives a value
 pub value_kind_says : (k : Kind) → Good value k → Says (kind_text k) value k

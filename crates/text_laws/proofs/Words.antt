@@ -1,17 +1,15 @@
 -- The words of items and the groups of functions: what is kept of them is spelled by its canonical text.
-use Rattle.std.proofs.Common.{◌≡◌, ℕ, zero, suc, ◌+◌, ◌<◌, List, [], ◌∷◌, ◌++◌, append_assoc, length, map, Contains, Bool, true, false, cond, refl, sym, ap, ◌∙◌, subst, inl, inr, ◌⊎◌, arith, codes}
+use Rattle.std.proofs.Common.{◌≡◌, ℕ, zero, suc, ◌<◌, List, [], ◌∷◌, ◌++◌, length, map, Contains, true, refl, sym, ap, ◌∙◌, subst, inl, inr, arith, codes}
 use Rattle.std.specs.List.{flat_map}
 use Rattle.std.proofs.lemmas.List.{append-nil}
 use Rattle.ir_core.specs.Bytes.{Hash}
 use Rattle.ir_core.specs.Tokens.{Word, Group, Lexeme, Led, IsDigits}
-use Rattle.ir_core.specs.Spell.{◌>>=◌, done, one, any, many}
-use Rattle.ir_core.specs.Forms.{IsOneOf}
-use Rattle.ir_core.specs.Instructions.{conventions}
-use Rattle.ir_core.specs.Language.{item_words, IsItemWord, kept_words, FunctionWordForm, KeptGroup, PlainWord, TextWord, Section, Comdat, Aligned, Attached, IsKeptGroup, function_word, groups}
+use Rattle.ir_core.specs.Spell.{done, one, any, many}
+use Rattle.ir_core.specs.Language.{item_words, IsItemWord, kept_words, FunctionWordForm, KeptGroup, PlainWord, TextWord, Section, Comdat, Aligned, Attached, function_word, groups}
 use Rattle.ir_core.specs.Text.{is_word, spaced_words, all_led}
-use Rattle.text_laws.proofs.Rows.{Bare, bare, bare_of}
+use Rattle.text_laws.proofs.Rows.{Bare, bare}
 use Rattle.text_laws.proofs.Joined.{Gives, Closes, gives_none, gives_then, closes_gives, closes_then, closes_space, closes_word}
-use Rattle.text_laws.proofs.Spelled.{Spelled, Shows, part, no_tokens, spelled_done, spelled_then, spelled_as, spelled_any, spelled_one}
+use Rattle.text_laws.proofs.Spelled.{Spelled, part, no_tokens, spelled_done, spelled_then, spelled_as, spelled_any, spelled_one}
 use Rattle.text_laws.proofs.Quoted.{begins_gives, group_begins}
 use Rattle.text_laws.proofs.Fine.{Shaped}
 use Rattle.text_laws.proofs.Good.{Good, AllGood, good_then, good_done, good_one, good_any, good_many}
