@@ -1,7 +1,2 @@
 pub mod Bodies
-pub mod PrintedFunctions
-pub mod PrintedInstructions
-pub mod PrintedNumbers
-pub mod PrintedOperands
-pub mod ReadBack
 pub mod Signed
