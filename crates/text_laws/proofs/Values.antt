@@ -35,7 +35,8 @@ pow_most width h = let two : 0 < 2 = omega arith in pow-le-pow_right two h
 pow_half : (width : ℕ) → width ≤ 64 → 2 ^ (width - 1) ≤ 2 ^ 63
 pow_half width h = let two : 0 < 2 = omega arith in let less : width - 1 ≤ 63 = omega arith in pow-le-pow_right two less
 
-half_of : (width : ℕ) → 0 < width → 2 ^ width ≡ 2 ^ (width - 1) + 2 ^ (width - 1)
+-- half of all the numbers of a width
+pub half_of : (width : ℕ) → 0 < width → 2 ^ width ≡ 2 ^ (width - 1) + 2 ^ (width - 1)
 half_of zero h = omega arith
 half_of (suc k) h = let e : suc k - 1 ≡ k = omega arith in rw e (two-pow-succ k)
 
