@@ -3,7 +3,7 @@ use Rattle.std.proofs.Common.{◌≡◌, ℕ, zero, suc, ◌+◌, ◌-◌, ◌�
 use Rattle.std.proofs.lemmas.List.{append-nil}
 use Rattle.std.proofs.lemmas.Bool.{eqb-true, lt-ltb}
 use Rattle.ir_core.specs.Bytes.{Class, Bracket, Digit, Dash, Letter, class_of, is_word_class, is_digit_class, word_byte, digit_byte, every}
-use Rattle.ir_core.specs.Tokens.{TokenKind, Word, Local, Global, Label, Number, Float, CText, Mark, Spot, is_outside, behind}
+use Rattle.ir_core.specs.Tokens.{TokenKind, Word, Label, Number, Float, CText, Mark, Spot, is_outside, behind}
 use Rattle.ir_core.specs.Scan.{Literal, Minus, Whole, Neither, literal_start, literal_step, is_float, is_no_literal, longest, run, piece, is_number_tail, name_size, stem_size, c_text_size, by_colon, by_size, by_name, by_tail, word_piece, digits_piece, by_class, plain_at, line_size, passive_size, begins_passive}
 use Rattle.ir_core.specs.Text.{is_word, is_word_from, is_numeral}
 use Rattle.ir_core.proofs.Runs.{by_test, if_true, if_false, run_ended, every_first, every_more, digit_class, tail_made}
@@ -71,12 +71,6 @@ label_lexed d w rest ls h r =
 pub sign_piece : (kind : TokenKind) (w rest : List ℕ) → is_word w ≡ true → Ends rest → by_name kind (name_size (w ++ rest)) ≡ piece (Some kind) (suc (length w))
 sign_piece kind w [] h e = absurd (let f : false ≡ true = e in cc)
 sign_piece kind w (c ∷ rest) h e = ap (by_name kind) (word_size w c rest h (ends_word c e).0) ∙ name_made kind (length w) (word_some w h) ∙ ap (piece (Some kind)) (more (length w))
-
-pub local_lexed : (d : ℕ) (w rest : List ℕ) (ls : List Bare) → is_word w ≡ true → Ends rest → Lexed d rest ls → Lexed d (37 ∷ (w ++ rest)) (bare Local (37 ∷ w) ∷ ls)
-local_lexed d w rest ls h e r = token_more d Local (37 ∷ w) rest ls (λ s. refl) (omega arith) (sign_piece Local w rest h e) (λ f. cc) r
-
-pub global_lexed : (d : ℕ) (w rest : List ℕ) (ls : List Bare) → is_word w ≡ true → Ends rest → Lexed d rest ls → Lexed d (64 ∷ (w ++ rest)) (bare Global (64 ∷ w) ∷ ls)
-global_lexed d w rest ls h e r = token_more d Global (64 ∷ w) rest ls (λ s. refl) (omega arith) (sign_piece Global w rest h e) (λ f. cc) r
 
 -- digits, and digits behind a -
 pub word_digit : (c : ℕ) → digit_byte c ≡ true → word_byte c ≡ true

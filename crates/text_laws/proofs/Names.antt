@@ -84,9 +84,6 @@ says_token {b = b} g s = record { tokens = b ∷ []; lexed = g; spelled = spelle
 pub local_says : (x : List ℕ) → Good (one IsLocal) x → Says (local_text x) (one IsLocal) x
 local_says x g = let b = local_bytes (good_one g) in says_token (gives_local x b) (shows_local x b)
 
-pub global_says : (x : List ℕ) → Good (one IsGlobal) x → Says (global_name_text x) (one IsGlobal) x
-global_says x g = let b = global_bytes (good_one g) in says_token (gives_global x b) (shows_global x b)
-
 -- ---- words of tables
 
 -- the texts of a table's values are their words
