@@ -12,7 +12,8 @@ ghost use Rattle.ir_core.specs.Text.{
   type_text,
 };
 ghost use Rattle.ir_core.specs.Tokens.{text_limit};
-ghost use Rattle.ir_print.specs.Parts.{element_text, global_start};
+ghost use Rattle.ir_print.specs.Parts.{global_start};
+ghost use Rattle.text_laws.specs.Elements.{element_text};
 
 use crate::instructions::write_align;
 use crate::names::{write_global_name, write_local, write_quoted};

@@ -32,7 +32,8 @@ use Rattle.text_laws.proofs.Types.{IsSized, type_says, type_sized}
 use Rattle.text_laws.proofs.Values.{number_says, number_small}
 use Rattle.text_laws.proofs.Orders.{ended_then, align_ended, align_says}
 use Rattle.text_laws.proofs.Words.{words_back}
-use Rattle.text_laws.proofs.InitTexts.{element_text, zero_text, number_init_text, null_text, address_text, bytes_text, square_text, braces_text}
+use Rattle.text_laws.specs.Elements.{element_text}
+use Rattle.text_laws.proofs.InitTexts.{zero_text, number_init_text, null_text, address_text, bytes_text, square_text, braces_text}
 
 -- ---- initializers of one token
 

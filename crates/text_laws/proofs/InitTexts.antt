@@ -5,11 +5,8 @@ use Rattle.ir_core.specs.declared.module.Init.{Init, fold-roll-Init}
 use Rattle.ir_core.specs.declared.module.Init.TheOpen.{Init-F}
 use Rattle.ir_core.specs.declared.module.Init.TheVariants.{Zero, Int, Null, Addr, Bytes, Square, Braces, rolls-Zero, rolls-Int, rolls-Null, rolls-Addr, rolls-Bytes, rolls-Square, rolls-Braces}
 use Rattle.ir_core.specs.declared.module.Element.{Element, fold-Element, fold_out-Element}
-use Rattle.ir_core.specs.Text.{type_text, number_text, global_name_text, init_text, init_layer, element_layer, quoted, in_spaces}
-
--- a part of an initializer, with its type
-abbrev pub element_text : Element → List ℕ
-element_text e = type_text e.ty ++ codes " " ++ init_text e.ty e.init
+use Rattle.text_laws.specs.Elements.{element_text}
+use Rattle.ir_core.specs.Text.{number_text, global_name_text, init_text, init_layer, element_layer, quoted, in_spaces}
 
 pub zero_text : (ty : Ty) → init_text ty Zero ≡ codes "zeroinitializer"
 zero_text ty = ap (init_text ty) (sym rolls-Zero) ∙ ap (λ (f : Ty → List ℕ). f ty) (fold-roll-Init (Ty → List ℕ) (List ℕ) init_layer element_layer Init-F.Zero)
