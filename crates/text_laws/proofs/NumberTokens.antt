@@ -1,4 +1,4 @@
--- Printed numbers, and what they are kept as.
+-- Numbers in digits, and what they are kept as.
 use Rattle.std.proofs.Common.{mod-eq_of_lt, ◌≡◌, ℕ, zero, suc, ◌+◌, ◌-◌, ◌*◌, ◌/◌, ◌%◌, ◌^◌, ◌≤◌, ◌<◌, List, [], ◌∷◌, ◌++◌, Bool, true, false, refl, sym, ap, ◌∙◌, arith, decimal, ◌==◌}
 use Rattle.std.proofs.lemmas.Bool.{lt-ltb, le-leb, eqb-true}
 use Rattle.std.proofs.lemmas.Fmt.{decimal_by_steps}
@@ -43,7 +43,7 @@ decimal_digits n h = decimal_by_steps (λ n ds. every digit_byte ds ≡ true)
     n h
 
 -- digits do not begin with a -
-no_minus : (ds : List ℕ) → every digit_byte ds ≡ true → is_negative ds ≡ false
+pub no_minus : (ds : List ℕ) → every digit_byte ds ≡ true → is_negative ds ≡ false
 no_minus [] h = refl
 no_minus (d ∷ ds) h = by (d == 45) refl
   where
@@ -53,11 +53,11 @@ no_minus (d ∷ ds) h = by (d == 45) refl
 
 -- ---- what they are kept as
 
-small_mod : (n m : ℕ) → n < m → n % m ≡ n
+pub small_mod : (n m : ℕ) → n < m → n % m ≡ n
 small_mod n m h = mod-eq_of_lt h
 
 -- a number without a sign
-plain_fits : (n : ℕ) → n < 2 ^ 64 → (is_negative (decimal n) ≡ false) × (magnitude (decimal n) ≡ n)
+pub plain_fits : (n : ℕ) → n < 2 ^ 64 → (is_negative (decimal n) ≡ false) × (magnitude (decimal n) ≡ n)
 plain_fits n h =
     let e = no_minus (decimal n) (decimal_digits n h) in
     (e, if_false _ _ _ e ∙ decimal_value n h)

@@ -3,13 +3,22 @@ use Rattle.std.proofs.Common.{◌≡◌, ℕ, List, ◌++◌, codes, map, ap, sy
 use Rattle.ir_core.specs.declared.types.Ty.{Ty}
 use Rattle.ir_core.specs.declared.module.Init.{Init, fold-roll-Init}
 use Rattle.ir_core.specs.declared.module.Init.TheOpen.{Init-F}
-use Rattle.ir_core.specs.declared.module.Init.TheVariants.{Zero, Bytes, Square, Braces, rolls-Zero, rolls-Bytes, rolls-Square, rolls-Braces}
+use Rattle.ir_core.specs.declared.module.Init.TheVariants.{Zero, Int, Null, Addr, Bytes, Square, Braces, rolls-Zero, rolls-Int, rolls-Null, rolls-Addr, rolls-Bytes, rolls-Square, rolls-Braces}
 use Rattle.ir_core.specs.declared.module.Element.{Element, fold-Element, fold_out-Element}
-use Rattle.ir_core.specs.Text.{init_text, init_layer, element_layer, quoted, in_spaces}
-use Rattle.ir_print.specs.Parts.{element_text}
+use Rattle.text_laws.specs.Elements.{element_text}
+use Rattle.ir_core.specs.Text.{number_text, global_name_text, init_text, init_layer, element_layer, quoted, in_spaces}
 
 pub zero_text : (ty : Ty) → init_text ty Zero ≡ codes "zeroinitializer"
 zero_text ty = ap (init_text ty) (sym rolls-Zero) ∙ ap (λ (f : Ty → List ℕ). f ty) (fold-roll-Init (Ty → List ℕ) (List ℕ) init_layer element_layer Init-F.Zero)
+
+pub number_init_text : (ty : Ty) (n : ℕ) → init_text ty (Int n) ≡ number_text ty n
+number_init_text ty n = ap (init_text ty) (sym (rolls-Int n)) ∙ ap (λ (f : Ty → List ℕ). f ty) (fold-roll-Init (Ty → List ℕ) (List ℕ) init_layer element_layer (Init-F.Int n))
+
+pub null_text : (ty : Ty) → init_text ty Null ≡ codes "null"
+null_text ty = ap (init_text ty) (sym rolls-Null) ∙ ap (λ (f : Ty → List ℕ). f ty) (fold-roll-Init (Ty → List ℕ) (List ℕ) init_layer element_layer Init-F.Null)
+
+pub address_text : (ty : Ty) (x : List ℕ) → init_text ty (Addr x) ≡ global_name_text x
+address_text ty x = ap (init_text ty) (sym (rolls-Addr x)) ∙ ap (λ (f : Ty → List ℕ). f ty) (fold-roll-Init (Ty → List ℕ) (List ℕ) init_layer element_layer (Init-F.Addr x))
 
 pub bytes_text : (ty : Ty) (bytes : List ℕ) → init_text ty (Bytes bytes) ≡ codes "c" ++ quoted bytes
 bytes_text ty bytes = ap (init_text ty) (sym (rolls-Bytes bytes)) ∙ ap (λ (f : Ty → List ℕ). f ty) (fold-roll-Init (Ty → List ℕ) (List ℕ) init_layer element_layer (Init-F.Bytes bytes))
