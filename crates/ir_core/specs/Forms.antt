@@ -77,12 +77,21 @@ default_space = do
   close ← mark 41
   done tt
 
-pub data TypeForm : Type 0 where
-  Integer : TypeForm
-  Pointer : TypeForm
-  NamedForm : TypeForm
-  ArrayForm : TypeForm
-  StructForm : TypeForm
+pub data FlatForm : Type 0 where
+  Integer : FlatForm
+  Pointer : FlatForm
+  NamedForm : FlatForm
+
+-- a type without brackets
+abbrev pub flat_form : FlatForm → Spell Ty
+flat_form Integer = one (IsWordIn integer_types)
+flat_form Pointer = do
+  pointer ← word (codes "ptr")
+  space ← maybe tt default_space
+  done Ptr
+flat_form NamedForm = do
+  x ← one IsLocal
+  done (Named x)
 
 -- [n x T]
 abbrev pub array_of : Spell Ty → Spell Ty
@@ -101,25 +110,19 @@ struct_of T = do
   fields ← list_to 125 T
   done (Struct fields)
 
--- in no bracket there is no type
-abbrev pub no_type : Spell Ty
-no_type ts ty = ⊥
+pub data TypeForm : Type 0 where
+  Flat : TypeForm
+  ArrayForm : TypeForm
+  StructForm : TypeForm
 
 abbrev pub type_form : Spell Ty → TypeForm → Spell Ty
-type_form T Integer = one (IsWordIn integer_types)
-type_form T Pointer = do
-  pointer ← word (codes "ptr")
-  space ← maybe tt default_space
-  done Ptr
-type_form T NamedForm = do
-  x ← one IsLocal
-  done (Named x)
+type_form T Flat = any flat_form
 type_form T ArrayForm = array_of T
 type_form T StructForm = struct_of T
 
 -- a type with no more brackets open at once than this
 abbrev pub type_in : ℕ → Spell Ty
-type_in zero = any (type_form no_type)
+type_in zero = any flat_form
 type_in (suc depth) = any (type_form (type_in depth))
 
 -- 32 brackets

@@ -13,14 +13,16 @@ use Rattle.ir_core.specs.Tokens.{Lexeme, TokenKind, Word}
 use Rattle.ir_core.specs.Spell.{IsFirstRefused, any, many, IsWord, IsWordIn, with_line, list_to}
 use Rattle.ir_core.specs.Spell as spell
 use Rattle.ir_core.specs.Grammar.{IsLocal, IsGlobal, IsLabel, IsValue, IsScalarType, IsResultType, scalar_types, result_types, typed, next_typed, next_value, target, next_target, call, no_flags, predicates, ValueForm, Binary, Compare, LoadForm, CallForm, value_words, value_of_form, value, PlainForm, Assigns, Stores, Calls, plain_words, plain_of, plain, BranchForm, Straight, Tested, branch_of, LastForm, Branches, Returns, last_words, last_of, block, param, numbered, body, FunctionForm, Defines, Declares, function_words, heading, function_of, of_functions, functions_to_end}
-use Rattle.ir_read.specs.Read.{Shrinks, one_at, goes, many_at, as_local, as_global, as_label, as_word, as_table, with_line_of, is_mark, is_word, is_local, is_label, look_up}
-use Rattle.ir_read.specs.Reading.{as_scalar_type, as_result_type, as_value, typed_at, next_typed_at, next_value_at, target_at, next_target_at, call_at, binary_at, compare_at, load_at, value_at_form, value_at, assignment_at, store_at, plain_call_at, plain_at_form, plain_form, plain_goes, plain_at, straight_at, tested_at, branch_at_form, branch_form, branch_at, last_branch_at, return_at, form_in, last_at_form, last_at, block_at, label_goes, param_at, body_at, heading_at, definition_at, declaration_at, function_at_form, function_form, function_goes, function_at, functions_at, module_at}
-use Rattle.ir_read.proofs.Readers.{Reads, Free, Begins, one_reads, done_reads, then_reads, pick_reads, one_begins, then_begins, any_begins, then_reads_where, reads_before}
-use Rattle.ir_read.proofs.Many.{Stops, shrinks_by, many_reads, many_then_reads}
-use Rattle.ir_read.proofs.TokenTests.{local_tests, global_tests, label_tests, word_tests, table_tests, lined_tests, is_spelled, not_spelled}
-use Rattle.ir_read.proofs.Lists.{mark_reads, list_reads}
+use Rattle.read_forms.specs.Read.{form_in, Shrinks, one_at, goes, many_at, as_word, as_table, with_line_of, is_mark, is_word, is_local, is_label, look_up}
+use Rattle.ir_read.specs.Names.{as_local, as_global, as_label}
+use Rattle.ir_read.specs.Reading.{as_scalar_type, as_result_type, as_value, typed_at, next_typed_at, next_value_at, target_at, next_target_at, call_at, binary_at, compare_at, load_at, value_at_form, value_at, assignment_at, store_at, plain_call_at, plain_at_form, plain_form, plain_goes, plain_at, straight_at, tested_at, branch_at_form, branch_form, branch_at, last_branch_at, return_at, last_at_form, last_at, block_at, label_goes, param_at, body_at, heading_at, definition_at, declaration_at, function_at_form, function_form, function_goes, function_at, functions_at, module_at}
+use Rattle.read_forms.proofs.Readers.{Reads, Free, Begins, one_reads, done_reads, then_reads, pick_reads, one_begins, then_begins, any_begins, then_reads_where, reads_before}
+use Rattle.read_forms.proofs.Many.{Stops, shrinks_by, many_reads, many_then_reads}
+use Rattle.read_forms.proofs.TokenTests.{word_tests, table_tests, lined_tests, is_spelled, not_spelled}
+use Rattle.read_forms.proofs.Lists.{mark_reads, list_reads}
+use Rattle.ir_read.proofs.NameTests.{local_tests, global_tests, label_tests}
 use Rattle.ir_read.proofs.Values.{value_tests}
-use Rattle.ir_read.proofs.Whole.{whole_found, whole_refused, whole_only}
+use Rattle.read_forms.proofs.Whole.{whole_found, whole_refused, whole_only}
 
 -- ---- single tokens
 

@@ -1,10 +1,5 @@
-pub mod Readers
-pub mod Many
-pub mod Whole
-pub mod TokenTests
-pub mod Lists
+pub mod NameTests
 pub mod Values
-pub mod Digits
 pub mod Numbered
 pub mod Laws
 pub mod Texts

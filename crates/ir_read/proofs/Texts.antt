@@ -6,10 +6,10 @@ use Rattle.ir_core.specs.declared.module.Module.{Module}
 use Rattle.ir_core.specs.Tokens.{Lexeme, Token, Lexes, lexemes, text_limit}
 use Rattle.ir_core.specs.Spell.{SameNext, IsFirstRefused}
 use Rattle.ir_core.specs.Grammar.{functions_to_end, Reads}
-use Rattle.ir_read.specs.Read.{Fails}
+use Rattle.read_forms.specs.Read.{Fails}
 use Rattle.ir_read.specs.Reading.{module_at}
 use Rattle.ir_read.specs.Refused.{IsTokenRefusal}
-use Rattle.ir_read.proofs.Readers.{ok_parts}
+use Rattle.read_forms.proofs.Readers.{ok_parts}
 use Rattle.ir_read.proofs.Laws.{module_only, module_refused}
 use Rattle.ir_lex.proofs.Whole.{one_lexing as one_list}
 

@@ -7,9 +7,10 @@ use Rattle.ir_core.specs.Tokens.{Lexeme, TokenKind, Word, Local, Global, Number}
 use Rattle.ir_core.specs.Spell.{InTable}
 use Rattle.ir_core.specs.Numbers.{is_number_in_range, kept_at}
 use Rattle.ir_core.specs.Grammar.{IsValue, truth_words}
-use Rattle.ir_read.specs.Reading.{literals, as_number, value_by, as_value}
-use Rattle.ir_read.proofs.Readers.{Tests}
-use Rattle.ir_read.proofs.TokenTests.{chosen_some, some_is, look_found, look_only}
+use Rattle.read_forms.specs.Operands.{as_number}
+use Rattle.ir_read.specs.Reading.{literals, value_by, as_value}
+use Rattle.read_forms.proofs.Readers.{Tests}
+use Rattle.read_forms.proofs.TokenTests.{chosen_some, some_is, look_found, look_only}
 
 -- a literal is spelled by its word
 literal_is : (ty : Ty) (t : Lexeme) (v : Value) → t.kind ≡ Word → InTable literals t.bytes v → IsValue ty t v

@@ -1,5 +1,4 @@
 -- The forms that the code tells apart, as the grammar has them.
-use Rattle.std.specs.Prelude.{Option, Some, None}
 use Rattle.ir_core.specs.Grammar as grammar
 use Rattle.ir_read.specs.declared.forms.ValueForm.{ValueForm}
 use Rattle.ir_read.specs.declared.forms.ValueForm.TheVariants.{Binary, Compare, Load, Call}
@@ -11,11 +10,6 @@ use Rattle.ir_read.specs.declared.forms.LastForm.{LastForm}
 use Rattle.ir_read.specs.declared.forms.LastForm.TheVariants.{Branches, Returns}
 use Rattle.ir_read.specs.declared.forms.FunctionForm.{FunctionForm}
 use Rattle.ir_read.specs.declared.forms.FunctionForm.TheVariants.{Defines, Declares}
-
--- of a form that there may be
-abbrev pub if_some : {A B : Type 0} → (A → B) → Option A → Option B
-if_some f None = None
-if_some f (Some x) = Some (f x)
 
 abbrev pub value_form_seen : ValueForm → grammar.ValueForm
 value_form_seen (Binary op) = grammar.Binary op

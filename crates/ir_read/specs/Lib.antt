@@ -1,5 +1,4 @@
-pub mod Read
+pub mod Names
 pub mod Reading
-pub mod Widths
 pub mod Forms
 pub mod Refused

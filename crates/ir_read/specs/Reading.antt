@@ -15,9 +15,10 @@ use Rattle.ir_core.specs.declared.module.Function.{Function}
 use Rattle.ir_core.specs.declared.module.Param.{Param}
 use Rattle.ir_core.specs.declared.module.Block.{Block}
 use Rattle.ir_core.specs.Tokens.{Lexeme, TokenKind, Word, Local, Global, Number}
-use Rattle.ir_core.specs.Numbers.{is_number_in_range, kept_at}
 use Rattle.ir_core.specs.Grammar.{scalar_types, result_types, no_flags, predicates, ValueForm, Binary, Compare, LoadForm, CallForm, value_words, PlainForm, Assigns, Stores, Calls, plain_words, BranchForm, Straight, Tested, LastForm, Branches, Returns, last_words, numbered, FunctionForm, Defines, Declares, function_words, of_functions}
-use Rattle.ir_read.specs.Read.{Read, ◌>>=◌, done, one_at, pick, goes, many_at, whole, list_at, as_local, as_global, as_label, as_mark, as_word, as_table, with_line_of, look_up, spells_word, is_local, is_label}
+use Rattle.read_forms.specs.Operands.{as_number}
+use Rattle.ir_read.specs.Names.{as_local, as_global, as_label}
+use Rattle.read_forms.specs.Read.{form_in, Read, ◌>>=◌, done, one_at, pick, goes, many_at, whole, list_at, as_mark, as_word, as_table, with_line_of, look_up, spells_word, is_local, is_label}
 
 -- ---- types
 
@@ -32,9 +33,6 @@ as_result_type = as_table result_types
 -- the words among the operands
 abbrev pub literals : List (List ℕ × Value)
 literals = (codes "true", IntValue 1) ∷ (codes "false", IntValue 0) ∷ (codes "null", Null) ∷ []
-
-abbrev pub as_number : Ty → List ℕ → Option Value
-as_number ty bytes = if is_number_in_range bytes then Present (IntValue (kept_at ty bytes)) else Absent
 
 abbrev pub value_by : Ty → List ℕ → TokenKind → Option Value
 value_by ty bytes Number = as_number ty bytes
@@ -190,10 +188,6 @@ return_at = do
 abbrev pub last_at_form : LastForm → Read Inst
 last_at_form Branches = last_branch_at
 last_at_form Returns = return_at
-
-abbrev pub form_in : {K : Type 0} → List (List ℕ × K) → Option Lexeme → Option K
-form_in table Absent = Absent
-form_in table (Present t) = as_table table t
 
 abbrev pub last_at : Read Inst
 last_at = pick (form_in last_words) last_at_form

@@ -1,12 +1,13 @@
 //! What a word or a token begins.
 ghost use Rattle.std.specs.Prelude.{◌≡◌};
 ghost use Rattle.ir_core.specs.Grammar.{value_words, plain_words, last_words, function_words};
-ghost use Rattle.ir_read.specs.Read.{head, look_up};
-ghost use Rattle.ir_read.specs.Reading.{plain_form, branch_form, form_in, function_form};
-ghost use Rattle.ir_read.specs.Forms.{if_some, value_form_seen, plain_form_seen, branch_form_seen, last_form_seen, function_form_seen};
+ghost use Rattle.read_forms.specs.Read.{form_in, head, look_up};
+ghost use Rattle.ir_read.specs.Reading.{plain_form, branch_form, function_form};
+ghost use Rattle.read_forms.specs.Seen.{if_some};
+ghost use Rattle.ir_read.specs.Forms.{value_form_seen, plain_form_seen, branch_form_seen, last_form_seen, function_form_seen};
 
-use crate::ahead::Ahead;
 use ir_core::BinOp;
+use read_forms::Ahead;
 
 /// What stands behind `%x =`.
 #[derive(Clone, Copy)]

@@ -1,17 +1,17 @@
 //! Functions and their blocks.
 ghost use Rattle.std.specs.Prelude.{◌≡◌, ◌∷◌, decimal, IfOk};
 ghost use Rattle.ir_core.specs.Grammar.{numbered};
-ghost use Rattle.ir_read.specs.Read.{Gives, head};
+ghost use Rattle.read_forms.specs.Read.{Gives, head};
 ghost use Rattle.ir_read.specs.Reading.{block_at, label_goes, param_at, body_at, heading_at, definition_at, declaration_at, function_at, function_goes};
 
-use crate::ahead::Ahead;
 use crate::forms::{FunctionForm, function_form_ahead};
-use crate::instructions::read_last;
-use crate::repeated::{Part, Repeated, read_list, read_many};
-use crate::tokens::{Reading, expect_mark, expect_word, read_global, read_label, read_local};
+use crate::instructions::{Plain, read_last};
+use crate::names::{read_global, read_label, read_local};
+use crate::operands::Types;
 use crate::types::{read_result_type, read_scalar_type};
 use ir_core::{Block, Copies, Function, Inst, List, Name, Or, OutOfMemory, Param, Ty};
 use itoa::Buffer;
+use read_forms::{Ahead, Part, Reading, Repeated, expect_mark, expect_word, read_list, read_many};
 use std::alloc::{AllocError, Global};
 
 /// A label, and the instructions to the end of the block.
@@ -20,13 +20,18 @@ fn read_block<'a>(alloc: Global, ahead: Ahead<'a>) -> Reading<'a, Block>
     ensures { Gives result (block_at ahead.entry) }
 {
     let ((name, line), rest) = read_label(alloc, ahead)?;
-    let (mut insts, rest) = read_many::<Inst>(alloc, rest)?;
+    let (mut insts, rest) = read_many::<Plain>(alloc, rest)?;
     let (last, rest) = read_last(alloc, rest)?;
     insts.push(last)?;
     Ok((Block { name, insts, line }, rest))
 }
 
-impl Part for Block {
+/// Blocks.
+pub(crate) enum Blocks {}
+
+impl Part for Blocks {
+    type Item = Block;
+
     ghost reading = { block_at };
 
     fn read<'a>(alloc: Global, ahead: Ahead<'a>) -> Reading<'a, Block> {
@@ -34,7 +39,7 @@ impl Part for Block {
     }
 }
 
-impl Repeated for Block {
+impl Repeated for Blocks {
     ghost goes = { label_goes };
 
     fn begins(ahead: &Ahead) -> bool {
@@ -55,7 +60,12 @@ fn read_param<'a>(alloc: Global, ahead: Ahead<'a>) -> Reading<'a, Param>
     Ok((Param { name, ty }, rest))
 }
 
-impl Part for Param {
+/// Parameters with names.
+pub(crate) enum Params {}
+
+impl Part for Params {
+    type Item = Param;
+
     ghost reading = { param_at };
 
     fn read<'a>(alloc: Global, ahead: Ahead<'a>) -> Reading<'a, Param> {
@@ -70,7 +80,7 @@ fn read_body<'a>(alloc: Global, ahead: Ahead<'a>) -> Reading<'a, List<Block>>
 {
     let (_, rest) = expect_mark(ahead, b'{')?;
     let (first, rest) = read_block(alloc, rest)?;
-    let (more, rest) = read_many::<Block>(alloc, rest)?;
+    let (more, rest) = read_many::<Blocks>(alloc, rest)?;
     let (_, rest) = expect_mark(rest, b'}')?;
     Ok((in_front(alloc, first, more)?, rest))
 }
@@ -102,7 +112,7 @@ fn read_definition<'a>(alloc: Global, ahead: Ahead<'a>) -> Reading<'a, Function>
 {
     let (line, rest) = expect_word(ahead, b"define".as_slice())?;
     let ((ret, name), rest) = read_heading(alloc, rest)?;
-    let (params, rest) = read_list(alloc, rest, b')')?;
+    let (params, rest) = read_list::<Params>(alloc, rest, b')')?;
     let (blocks, rest) = read_body(alloc, rest)?;
     let function = Function {
         name,
@@ -143,7 +153,7 @@ fn read_declaration<'a>(alloc: Global, ahead: Ahead<'a>) -> Reading<'a, Function
 {
     let (line, rest) = expect_word(ahead, b"declare".as_slice())?;
     let ((ret, name), rest) = read_heading(alloc, rest)?;
-    let (types, rest) = read_list::<Ty>(alloc, rest, b')')?;
+    let (types, rest) = read_list::<Types>(alloc, rest, b')')?;
     let params = numbered_params(alloc, types.as_slice())?;
     let function = Function {
         name,
@@ -167,7 +177,12 @@ fn read_function<'a>(alloc: Global, ahead: Ahead<'a>) -> Reading<'a, Function>
     }
 }
 
-impl Part for Function {
+/// Functions.
+pub(crate) enum Functions {}
+
+impl Part for Functions {
+    type Item = Function;
+
     ghost reading = { function_at };
 
     fn read<'a>(alloc: Global, ahead: Ahead<'a>) -> Reading<'a, Function> {
@@ -175,7 +190,7 @@ impl Part for Function {
     }
 }
 
-impl Repeated for Function {
+impl Repeated for Functions {
     ghost goes = { function_goes };
 
     fn begins(ahead: &Ahead) -> bool {

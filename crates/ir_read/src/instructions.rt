@@ -1,22 +1,22 @@
 //! Instructions.
 ghost use Rattle.std.specs.Prelude.{◌≡◌};
 ghost use Rattle.ir_core.specs.Grammar.{value_words, predicates};
-ghost use Rattle.ir_read.specs.Read.{Gives, GivesAs, one_at, as_table, look_up};
+ghost use Rattle.read_forms.specs.Read.{Gives, GivesAs, one_at, as_table, look_up};
 ghost use Rattle.ir_read.specs.Reading.{call_at, binary_at, compare_at, load_at, value_at, assignment_at, store_at, plain_call_at, plain_at, plain_goes, straight_at, tested_at, branch_at, last_branch_at, return_at, last_at};
 ghost use Rattle.ir_read.specs.Forms.{value_form_seen};
 
-use crate::ahead::Ahead;
 use crate::forms::{
     BranchForm, LastForm, PlainForm, ValueForm, branch_form_ahead, last_form_ahead,
     plain_form_ahead, value_form_of,
 };
+use crate::names::{read_global, read_local_with_line};
 use crate::operands::{
-    read_next_target, read_next_typed, read_next_value, read_target, read_typed, read_value,
+    Operands, read_next_target, read_next_typed, read_next_value, read_target, read_typed,
+    read_value,
 };
-use crate::repeated::{Part, Repeated, read_list};
-use crate::tokens::{Reading, expect_mark, expect_word, read_global, read_local_with_line};
 use crate::types::{read_result_type, read_scalar_type};
 use ir_core::{BinOp, Flags, Inst, Kind, Or, Pred, TailWord, Value};
+use read_forms::{Ahead, Part, Reading, Repeated, expect_mark, expect_word, read_list};
 use std::alloc::Global;
 
 /// `T @N(V, ..)`.
@@ -27,7 +27,7 @@ fn read_call<'a>(alloc: Global, ahead: Ahead<'a>) -> Reading<'a, Kind>
     let (ret, rest) = read_result_type(ahead)?;
     let (callee, rest) = read_global(alloc, rest)?;
     let (_, rest) = expect_mark(rest, b'(')?;
-    let (args, rest) = read_list(alloc, rest, b')')?;
+    let (args, rest) = read_list::<Operands>(alloc, rest, b')')?;
     let call = Kind::Call {
         tail: TailWord::Absent,
         ret,
@@ -276,7 +276,11 @@ pub(crate) fn read_last<'a>(alloc: Global, ahead: Ahead<'a>) -> Reading<'a, Inst
 }
 
 /// The instructions of a block but its last.
-impl Part for Inst {
+pub(crate) enum Plain {}
+
+impl Part for Plain {
+    type Item = Inst;
+
     ghost reading = { plain_at };
 
     fn read<'a>(alloc: Global, ahead: Ahead<'a>) -> Reading<'a, Inst> {
@@ -284,7 +288,7 @@ impl Part for Inst {
     }
 }
 
-impl Repeated for Inst {
+impl Repeated for Plain {
     ghost goes = { plain_goes };
 
     fn begins(ahead: &Ahead) -> bool {

@@ -2,15 +2,14 @@
 ghost use Rattle.std.specs.Prelude.{◌≡◌, IfOk, IfErr, List as Listed, ℕ};
 ghost use Rattle.ir_core.specs.Grammar.{Reads, functions_to_end};
 ghost use Rattle.ir_core.specs.Refusals.{IsReadRefusal};
-ghost use Rattle.ir_read.specs.Read.{Gives};
+ghost use Rattle.read_forms.specs.Read.{Gives};
 ghost use Rattle.ir_read.specs.Reading.{functions_at, module_at};
 ghost use Rattle.ir_read.specs.Refused.{IsTokenRefusal};
 
-use crate::ahead::Ahead;
-use crate::repeated::read_many;
-use crate::tokens::Reading;
-use ir_core::{Construct, Function, List, Module, Or, Refusal};
+use crate::functions::Functions;
+use ir_core::{Construct, List, Module, Or, Refusal};
 use ir_lex::{lex, looked_at};
+use read_forms::{Ahead, Reading, read_many};
 use std::alloc::Global;
 
 /// Functions, one after another.
@@ -18,7 +17,7 @@ use std::alloc::Global;
 fn read_functions<'a>(alloc: Global, ahead: Ahead<'a>) -> Reading<'a, Module>
     ensures { Gives result (functions_at ahead.entry) }
 {
-    let (functions, rest) = read_many::<Function>(alloc, ahead)?;
+    let (functions, rest) = read_many::<Functions>(alloc, ahead)?;
     let module = Module {
         prelude: List::new(alloc),
         types: List::new(alloc),

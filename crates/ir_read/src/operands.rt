@@ -1,16 +1,14 @@
 //! Operands.
 ghost use Rattle.std.specs.Prelude.{◌≡◌};
-ghost use Rattle.ir_read.specs.Read.{Gives, one_at, look_up};
+ghost use Rattle.read_forms.specs.Read.{Gives, one_at, look_up};
 ghost use Rattle.ir_read.specs.Reading.{as_value, as_scalar_type, literals, typed_at, next_typed_at, next_value_at, target_at, next_target_at};
-ghost use Rattle.ir_read.specs.Widths.{HasWidth};
+ghost use Rattle.read_forms.specs.Widths.{HasWidth};
 
-use crate::ahead::Ahead;
-use crate::numbers::number_value;
-use crate::repeated::Part;
-use crate::tokens::{Reading, expect_mark, expect_word, read_local};
+use crate::names::read_local;
 use crate::types::read_scalar_type;
 use ir_core::{Name, Or, Ty, Typed, Value};
 use ir_lex::TokenKind;
+use read_forms::{Ahead, Part, Reading, expect_mark, expect_word, number_value};
 use std::alloc::Global;
 
 fn literal(word: &[u8]) -> Option<Value>
@@ -96,7 +94,12 @@ pub(crate) fn read_next_target<'a>(alloc: Global, ahead: Ahead<'a>) -> Reading<'
     read_target(alloc, rest)
 }
 
-impl Part for Typed {
+/// `T x`.
+pub(crate) enum Operands {}
+
+impl Part for Operands {
+    type Item = Typed;
+
     ghost reading = { typed_at };
 
     fn read<'a>(alloc: Global, ahead: Ahead<'a>) -> Reading<'a, Typed> {
@@ -104,7 +107,12 @@ impl Part for Typed {
     }
 }
 
-impl Part for Ty {
+/// Types of values.
+pub(crate) enum Types {}
+
+impl Part for Types {
+    type Item = Ty;
+
     ghost reading = { one_at as_scalar_type };
 
     fn read<'a>(_: Global, ahead: Ahead<'a>) -> Reading<'a, Ty> {

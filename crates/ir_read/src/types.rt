@@ -1,13 +1,12 @@
 //! Types.
 ghost use Rattle.std.specs.Prelude.{◌≡◌, IfOk, IfSome};
 ghost use Rattle.ir_core.specs.Grammar.{scalar_types, result_types};
-ghost use Rattle.ir_read.specs.Read.{Gives, one_at, look_up};
+ghost use Rattle.read_forms.specs.Read.{Gives, one_at, look_up};
 ghost use Rattle.ir_read.specs.Reading.{as_scalar_type, as_result_type};
-ghost use Rattle.ir_read.specs.Widths.{HasWidth};
+ghost use Rattle.read_forms.specs.Widths.{HasWidth};
 
-use crate::ahead::Ahead;
-use crate::tokens::Reading;
 use ir_core::{Or, Ty};
+use read_forms::{Ahead, Reading};
 
 fn scalar_type(word: &[u8]) -> Option<Ty>
     ensures found { result ≡ look_up scalar_types word.now }

@@ -1,0 +1,6 @@
+pub mod Closed
+pub mod EndLaws
+pub mod Fuel
+pub mod RowLaws
+pub mod Laws
+pub mod Kept

@@ -1,0 +1,9 @@
+pub mod Readers
+pub mod Many
+pub mod Whole
+pub mod TokenTests
+pub mod Lists
+pub mod Choices
+pub mod Digits
+pub mod Values
+pub mod Laws
