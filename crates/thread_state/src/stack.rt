@@ -1,11 +1,12 @@
 //! The blocks of a thread's own stack, which loads and stores find by their numbers.
-ghost use Rattle.std.specs.Prelude.{◌≡◌, ℕ, ◌+◌, ◌<◌, ◌≤◌, Some, Ok, length, IfSome, IfOk};
+ghost use Rattle.std.specs.Prelude.{◌≡◌, ℕ, ◌+◌, ◌<◌, ◌≤◌, List, ◌∷◌, reverse, drop, Some, Ok, length, IfSome, IfOk};
 ghost use Rattle.ir_core.specs.declared.module.Module.{Module};
 ghost use Rattle.mem_model.specs.Words as words;
 ghost use Rattle.mem_model.specs.Memory.{inside};
 ghost use Rattle.mem_model.specs.Answers.{IsCell, IsOf};
-ghost use Rattle.mem_model.specs.Thread.{load_own, store_own, spliced};
-ghost use Rattle.thread_state.specs.Seen.{AreBlocks, IsThread};
+ghost use Rattle.mem_model.specs.Thread.{Frame, load_own, store_own, spliced};
+ghost use Rattle.mem_model.specs.Next.{with_frames};
+ghost use Rattle.thread_state.specs.Seen.{AreBlocks, thread_seen, IsThread, IsSeen};
 ghost use Rattle.thread_state.specs.Stored.{IsBlockPlace, own_block, IsStored};
 
 use crate::state::{StackBlock, ThreadState};
@@ -91,7 +92,8 @@ impl ThreadState {
     pub fn store(&mut self, number: u64, offset: i64, cell: Cell, word: Word) -> Result<(), Trap>
         requires cell { IsCell cell }
         requires word { IsOf cell word }
-        ensures { (m : Module) → IsThread m self.old → IsStored (store_own (own_block m self.old number) offset cell word) m number self.old self.new result }
+        ensures frames { self.new.frames ≡ self.old.frames }
+        ensures stored { (m : Module) → IsThread m self.old → IsStored (store_own (own_block m self.old number) offset cell word) m number self.old self.new result }
     {
         let Some(at) = block_place(self.stack.as_slice(), number) else {
             return Err(Trap::NoBlock);
@@ -99,5 +101,15 @@ impl ThreadState {
         let start = self.stack[at].cell_place(offset, cell)?;
         self.stack[at].write(start, cell, word);
         Ok(())
+    }
+
+    /// Ends the innermost call with the blocks of the stack that it has made; a thread without calls stays as it is.
+    pub fn leave(&mut self)
+        ensures frames { reverse self.new.frames.items ≡ drop 1 (reverse self.old.frames.items) }
+        ensures seen { (m : Module) (f : Frame) (rest : List Frame) → IsThread m self.old → (thread_seen m self.old).frames ≡ f ∷ rest → IsSeen m self.new (with_frames (thread_seen m self.old) rest) }
+    {
+        if let Some(frame) = self.frames.pop() {
+            self.stack.truncate(frame.base);
+        }
     }
 }

@@ -1,0 +1,5 @@
+pub mod Decides
+pub mod Moved
+pub mod Nexts
+pub mod Results
+pub mod Returned
