@@ -1,8 +1,14 @@
 //! The steps that a thread makes by itself, as the definition of the next step has them.
 //!
-//! `operands` reads operands, `actions` tells what an instruction does, `steps` does it.
+//! `operands` reads operands, `actions` tells what an instruction does, `steps` does it,
+//! and `run` makes one step after another.
 #![tactic(auto)]
 
 mod actions;
 mod operands;
+mod run;
 mod steps;
+
+pub use actions::Action;
+pub use run::{Pause, Ran, local_run, look};
+pub use steps::{Own, next};

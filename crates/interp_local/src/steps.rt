@@ -32,7 +32,7 @@ pub enum Own {
 }
 
 /// The instruction at which the innermost call stands.
-fn inst_at<'a>(m: &Indexed<'a>, s: &ThreadState) -> Option<&'a Inst>
+pub(crate) fn inst_at<'a>(m: &Indexed<'a>, s: &ThreadState) -> Option<&'a Inst>
     ensures value { option_copied result ≡ inst_of m.now s.now }
     ensures within { OnSome result (index_of s.now + 1 < 2 ^ 64) }
 {
@@ -58,21 +58,21 @@ fn result_place(m: &Indexed, s: &ThreadState, inst: &Inst) -> Option<usize>
 
 /// A place in a block of a stack: its thread, the number of the block there, and the offset in the block.
 #[derive(Clone, Copy)]
-struct Spot {
-    thread: u32,
-    number: u64,
-    offset: i64,
+pub(crate) struct Spot {
+    pub(crate) thread: u32,
+    pub(crate) number: u64,
+    pub(crate) offset: i64,
 }
 
 /// Where a pointer points to.
 #[derive(Clone, Copy)]
-enum Part {
+pub(crate) enum Part {
     Stack(Spot),
     Elsewhere,
 }
 
 /// Where a pointer points to.
-fn part_of(at: Ptr) -> Part
+pub(crate) fn part_of(at: Ptr) -> Part
     ensures { part_seen at result ≡ where_is at }
 {
     match at {

@@ -1,13 +1,14 @@
 //! The blocks of a thread's own stack, which loads and stores find by their numbers.
 ghost use Rattle.std.specs.Prelude.{◌≡◌, ℕ, ◌+◌, ◌<◌, ◌≤◌, List, ◌∷◌, reverse, drop, Some, Ok, length, IfSome, IfOk};
 ghost use Rattle.ir_core.specs.declared.module.Module.{Module};
+ghost use Rattle.mem_model.specs.declared.memory.Word.{Word};
 ghost use Rattle.mem_model.specs.Words as words;
 ghost use Rattle.mem_model.specs.Memory.{inside};
 ghost use Rattle.mem_model.specs.Answers.{IsCell, IsOf};
 ghost use Rattle.mem_model.specs.Thread.{Frame, load_own, store_own, spliced};
 ghost use Rattle.mem_model.specs.Next.{with_frames};
 ghost use Rattle.thread_state.specs.Seen.{AreBlocks, thread_seen, IsThread, IsSeen};
-ghost use Rattle.thread_state.specs.Stored.{IsBlockPlace, own_block, IsStored};
+ghost use Rattle.thread_state.specs.Stored.{IsBlockPlace, own_block, only_trap, IsStored};
 
 use crate::state::{StackBlock, ThreadState};
 use mem_model::{Cell, Trap, Word, cell_size, place_in, read_word, write_word};
@@ -100,6 +101,21 @@ impl ThreadState {
         };
         let start = self.stack[at].cell_place(offset, cell)?;
         self.stack[at].write(start, cell, word);
+        Ok(())
+    }
+
+    /// Whether a word of a cell can be stored in the block of a number of the thread's own stack.
+    ///
+    /// # Errors
+    ///
+    /// The trap of `store`.
+    pub fn reaches(&self, number: u64, offset: i64, cell: Cell) -> Result<(), Trap>
+        ensures { (m : Module) (word : Word) → IsThread m self.now → result ≡ only_trap (store_own (own_block m self.now number) offset cell word) }
+    {
+        let Some(at) = block_place(self.stack.as_slice(), number) else {
+            return Err(Trap::NoBlock);
+        };
+        self.stack[at].cell_place(offset, cell)?;
         Ok(())
     }
 
