@@ -7,7 +7,7 @@ use Rattle.ir_core.specs.declared.instructions.Kind.{Kind}
 use Rattle.ir_core.specs.declared.instructions.Kind.TheVariants.{Bin, ICmp, Cast, Select, Phi, Alloca, Load as LoadInst, Store as StoreInst, Rmw, Gep, Fence, Call, Br, CondBr, Switch, Ret, Unreachable as UnreachableInst}
 use Rattle.ir_core.specs.declared.instructions.Inst.{Inst}
 use Rattle.ir_core.specs.declared.module.Module.{Module}
-use Rattle.ir_core.specs.Places.{Name, labels, place_in}
+use Rattle.ir_core.specs.Places.{Name, inst_at, labels, place_in}
 use Rattle.mem_model.specs.declared.memory.Word.{Word}
 use Rattle.mem_model.specs.declared.step.Trap.{Trap}
 use Rattle.mem_model.specs.declared.step.Trap.TheVariants.{Unreachable}
@@ -36,6 +36,7 @@ pub record At (m : Module) (s : ThreadData) : Type 0 where
   pub next : Next m (thread_seen m s) ≡ next_inst m (thread_seen m s) f rest (inst_of m s)
   pub registers_are : f.code.registers ≡ registers m s
   pub function_is : f.code.at.function ≡ function_of s
+  pub place_is : inst_at m f.code.at ≡ inst_of m s
 
 at_by : (m : Module) (s : ThreadData) (fs : List FrameData) → reverse s.frames.items ≡ fs → (fs ≡ [] → ⊥) → At m s
 at_by m s [] e some = absurd (some refl)
@@ -52,6 +53,7 @@ at_by m s (g ∷ outer) e some =
       next = ap (next_frames m t) frames ∙ ap (next_inst m t f rest) (sym (ap (first_inst m) e));
       registers_are = sym (ap first_registers frames);
       function_is = sym (ap first_function e);
+      place_is = sym (ap (first_inst m) e);
     }
 
 none_back : {A : Type 0} (xs : List A) → reverse xs ≡ [] → length xs ≡ 0
@@ -62,6 +64,9 @@ not_empty n k b same e f g = grind (arith, nat_tests)
 
 pub at : (m : Module) (s : ThreadData) → (length s.frames.items ≡ 0 → ⊥) → At m s
 at m s some = at_by m s (reverse s.frames.items) refl (λ e. some (none_back s.frames.items e))
+
+pub at_inst : (m : Module) (s : ThreadData) (i : Inst) → inst_of m s ≡ Some i → At m s
+at_inst m s i is = at_by m s (reverse s.frames.items) refl (λ e. let none : first_inst m (reverse s.frames.items) ≡ None = ap (first_inst m) e in let f : ⊥ = cc in f)
 
 pub ended : (m : Module) (s : ThreadData) → s.frames.items ≡ [] → IsOwn m s s (Next m (thread_seen m s)) (Ok HasEnded)
 ended m s none = subst (λ nx. IsOwn m s s nx (Ok HasEnded)) (sym (ap (λ fs. next_frames m (thread_seen m s) (frames_seen m s.own s.stack.items (length s.stack.items) (reverse fs))) none)) refl

@@ -9,6 +9,6 @@ mod operands;
 mod run;
 mod steps;
 
-pub use actions::Action;
+pub use actions::{Action, decide};
 pub use run::{Pause, Ran, local_run, look};
-pub use steps::{Own, next};
+pub use steps::{Own, inst_at, next, result_place};

@@ -32,7 +32,7 @@ pub enum Own {
 }
 
 /// The instruction at which the innermost call stands.
-pub(crate) fn inst_at<'a>(m: &Indexed<'a>, s: &ThreadState) -> Option<&'a Inst>
+pub fn inst_at<'a>(m: &Indexed<'a>, s: &ThreadState) -> Option<&'a Inst>
     ensures value { option_copied result ≡ inst_of m.now s.now }
     ensures within { OnSome result (index_of s.now + 1 < 2 ^ 64) }
 {
@@ -46,7 +46,7 @@ pub(crate) fn inst_at<'a>(m: &Indexed<'a>, s: &ThreadState) -> Option<&'a Inst>
 }
 
 /// The place of the register that takes the result of the instruction at which the innermost call stands; none where it has none.
-fn result_place(m: &Indexed, s: &ThreadState, inst: &Inst) -> Option<usize>
+pub fn result_place(m: &Indexed, s: &ThreadState, inst: &Inst) -> Option<usize>
     requires { inst_of m.now s.now ≡ Some inst.now }
     ensures { IsPlaceOf (names_of m.now s.now) inst.now.result result }
 {

@@ -1,0 +1,10 @@
+//! A team of machine threads as code, step by step, as the team meaning has it.
+//!
+//! `shared` is what threads share, `events` makes a thread's pending event.
+#![tactic(auto)]
+
+mod events;
+mod shared;
+
+pub use events::event;
+pub use shared::{Answer, TeamShared};
