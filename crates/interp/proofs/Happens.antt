@@ -92,7 +92,7 @@ no_trap nx x p h = subst IsPending (sym h) p
 
 -- ---- the step of a team
 
-set_same : {A : Type 0} (xs : List A) (n : ℕ) (x : A) → slice_get xs n ≡ Some x → slice_set xs n x ≡ xs
+pub set_same : {A : Type 0} (xs : List A) (n : ℕ) (x : A) → slice_get xs n ≡ Some x → slice_set xs n x ≡ xs
 set_same [] n x e = refl
 set_same (y ∷ ys) zero x e = ap (λ z. z ∷ ys) (sym (some_injective e))
 set_same (y ∷ ys) (suc n) x e = ap (λ zs. y ∷ zs) (set_same ys n x e)
