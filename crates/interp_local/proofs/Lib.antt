@@ -1,4 +1,5 @@
 pub mod Decides
+pub mod FirstForms
 pub mod Looks
 pub mod Moved
 pub mod Nexts

@@ -5,10 +5,12 @@
 #![tactic(auto)]
 
 mod actions;
+mod first_form;
 mod operands;
 mod run;
 mod steps;
 
 pub use actions::{Action, decide};
+pub use first_form::first_form_is_plain;
 pub use run::{Pause, Ran, local_run, look};
 pub use steps::{Own, inst_at, next, result_place};
