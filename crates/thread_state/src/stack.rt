@@ -1,16 +1,18 @@
 //! The blocks of a thread's own stack, which loads and stores find by their numbers.
-ghost use Rattle.std.specs.Prelude.{◌≡◌, ℕ, ◌+◌, ◌<◌, ◌≤◌, List, ◌∷◌, reverse, drop, Some, Ok, length, IfSome, IfOk};
+ghost use Rattle.std.specs.Prelude.{◌≡◌, ℕ, ◌+◌, ◌<◌, ◌≤◌, List as Listed, ◌∷◌, reverse, drop, Some, Ok, length, IfSome, IfOk};
 ghost use Rattle.ir_core.specs.declared.module.Module.{Module};
 ghost use Rattle.mem_model.specs.declared.memory.Word.{Word};
 ghost use Rattle.mem_model.specs.Words as words;
 ghost use Rattle.mem_model.specs.Memory.{inside};
 ghost use Rattle.mem_model.specs.Answers.{IsCell, IsOf};
-ghost use Rattle.mem_model.specs.Thread.{Frame, load_own, store_own, spliced};
+ghost use Rattle.ir_core.specs.Places.{register_names};
+ghost use Rattle.mem_model.specs.Thread.{Frame as SpecFrame, load_own, store_own, spliced};
 ghost use Rattle.mem_model.specs.Next.{with_frames};
-ghost use Rattle.thread_state.specs.Seen.{AreBlocks, thread_seen, IsThread, IsSeen};
-ghost use Rattle.thread_state.specs.Stored.{IsBlockPlace, own_block, only_trap, IsStored};
+ghost use Rattle.thread_state.specs.Seen.{AreBlocks, StandsAtCall, thread_seen, IsThread, IsSeen};
+ghost use Rattle.thread_state.specs.Stored.{IsBlockPlace, own_block, only_trap, IsStored, HasEntered};
 
-use crate::state::{StackBlock, ThreadState};
+use crate::state::{Frame, StackBlock, ThreadState};
+use ir_core::{List, OutOfMemory};
 use mem_model::{Cell, Trap, Word, cell_size, place_in, read_word, write_word};
 
 /// The place of the block of a number in a stack whose numbers rise; none where no block has it.
@@ -119,10 +121,43 @@ impl ThreadState {
         Ok(())
     }
 
+    /// Begins a call of the function at a place, with these registers and room for as many words. In a thread that has calls, the
+    /// innermost one stands at the instruction that calls.
+    ///
+    /// # Errors
+    ///
+    /// For want of memory, and then the state means what it did.
+    pub fn enter(
+        &mut self,
+        function: usize,
+        registers: List<Option<Word>>,
+        room: List<Word>,
+    ) -> Result<(), OutOfMemory>
+        ensures { (m : Module)
+            → IsThread m self.old
+            → length registers ≡ length (register_names m function)
+            → length room ≡ length (register_names m function)
+            → StandsAtCall m (reverse self.old.frames.items)
+            → HasEntered m function registers self.old self.new result }
+    {
+        let frame = Frame {
+            function,
+            block: 0,
+            index: 0,
+            registers,
+            room,
+            base: self.stack.len(),
+        };
+        match self.frames.push(frame) {
+            Ok(()) => Ok(()),
+            Err(_) => Err(OutOfMemory),
+        }
+    }
+
     /// Ends the innermost call with the blocks of the stack that it has made; a thread without calls stays as it is.
     pub fn leave(&mut self)
         ensures frames { reverse self.new.frames.items ≡ drop 1 (reverse self.old.frames.items) }
-        ensures seen { (m : Module) (f : Frame) (rest : List Frame) → IsThread m self.old → (thread_seen m self.old).frames ≡ f ∷ rest → IsSeen m self.new (with_frames (thread_seen m self.old) rest) }
+        ensures seen { (m : Module) (f : SpecFrame) (rest : Listed SpecFrame) → IsThread m self.old → (thread_seen m self.old).frames ≡ f ∷ rest → IsSeen m self.new (with_frames (thread_seen m self.old) rest) }
     {
         if let Some(frame) = self.frames.pop() {
             self.stack.truncate(frame.base);
