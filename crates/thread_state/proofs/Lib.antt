@@ -3,3 +3,4 @@ pub mod Frames
 pub mod Held
 pub mod Stacks
 pub mod Ends
+pub mod Makes

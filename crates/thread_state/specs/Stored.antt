@@ -1,7 +1,8 @@
 -- What loads and stores in a thread's own stack make of its state.
-use Rattle.std.specs.Prelude.{◌≡◌, ℕ, List, [], ◌∷◌, reverse, slice_get, Option, Some, None, Result, Ok, Err, IsOk}
+use Rattle.std.specs.Prelude.{◌≡◌, ℕ, List, ◌+◌, [], ◌∷◌, reverse, replicate, slice_get, Option, Some, None, Result, Ok, Err, IsOk}
 use Rattle.ir_core.specs.declared.module.Module.{Module}
 use Rattle.mem_model.specs.declared.memory.Byte.{Byte}
+use Rattle.mem_model.specs.declared.memory.Byte.TheVariants.{Num}
 use Rattle.mem_model.specs.declared.step.Trap.{Trap}
 use Rattle.ir_core.specs.Places.{register_names}
 use Rattle.mem_model.specs.declared.memory.Word.{Word}
@@ -45,3 +46,8 @@ entered m function registers s = record {
 abbrev pub HasEntered : {U E : Type 0} → Module → ℕ → List (Option Word) → ThreadData → ThreadData → Result U E → Type 0
 HasEntered m function registers old new (Ok u) = IsSeen m new (with_frames (thread_seen m old) (entered m function registers old ∷ (thread_seen m old).frames))
 HasEntered m function registers old new (Err e) = IsSeen m new (thread_seen m old)
+
+-- the state with a block more of zero bytes in the innermost call; for want of memory it means what it did
+abbrev pub HasBlock : {U E : Type 0} → Module → ℕ → Frame → List Frame → ThreadData → ThreadData → Result U E → Type 0
+HasBlock m size f rest old new (Ok u) = IsSeen m new (record (thread_seen m old) { counter = old.counter + 1; frames = record f { blocks = ((old.own, old.counter), replicate size (Num 0)) ∷ f.blocks } ∷ rest })
+HasBlock m size f rest old new (Err e) = IsSeen m new (thread_seen m old)

@@ -9,11 +9,12 @@ ghost use Rattle.ir_core.specs.Places.{register_names};
 ghost use Rattle.mem_model.specs.Thread.{Frame as SpecFrame, load_own, store_own, spliced};
 ghost use Rattle.mem_model.specs.Next.{with_frames};
 ghost use Rattle.thread_state.specs.Seen.{AreBlocks, StandsAtCall, thread_seen, IsThread, IsSeen};
-ghost use Rattle.thread_state.specs.Stored.{IsBlockPlace, own_block, only_trap, IsStored, HasEntered};
+ghost use Rattle.thread_state.specs.Stored.{IsBlockPlace, own_block, only_trap, IsStored, HasEntered, HasBlock};
 
 use crate::state::{Frame, StackBlock, ThreadState};
 use ir_core::{List, OutOfMemory};
-use mem_model::{Cell, Trap, Word, cell_size, place_in, read_word, write_word};
+use mem_model::{Byte, Cell, Trap, Word, cell_size, place_in, read_word, write_word};
+use std::alloc::Global;
 
 /// The place of the block of a number in a stack whose numbers rise; none where no block has it.
 fn block_place(stack: &[StackBlock], number: u64) -> Option<usize>
@@ -152,6 +153,28 @@ impl ThreadState {
             Ok(()) => Ok(()),
             Err(_) => Err(OutOfMemory),
         }
+    }
+
+    /// Makes a block of so many zero bytes in the stack, which ends with the innermost call. Its number is how many were made before.
+    ///
+    /// # Errors
+    ///
+    /// For want of memory, and then nothing changes but the room of the stack; a 2^64th block of one thread isn't made either.
+    pub fn make_block(&mut self, alloc: Global, size: usize) -> Result<(), OutOfMemory>
+        ensures { (m : Module) (f : SpecFrame) (rest : Listed SpecFrame) → IsThread m self.old → (thread_seen m self.old).frames ≡ f ∷ rest → HasBlock m size f rest self.old self.new result }
+    {
+        let Some(counter) = self.counter.checked_add(1) else {
+            return Err(OutOfMemory);
+        };
+        let block = StackBlock {
+            number: self.counter,
+            bytes: vec![in alloc; Byte::Num(0); size]?,
+        };
+        if self.stack.push(block).is_err() {
+            return Err(OutOfMemory);
+        }
+        self.counter = counter;
+        Ok(())
     }
 
     /// Ends the innermost call with the blocks of the stack that it has made; a thread without calls stays as it is.
