@@ -14,7 +14,7 @@ use Rattle.ir_core.specs.Scan.{passive_size}
 use Rattle.ir_core.specs.Spell.{done, one, IsWordIn}
 use Rattle.ir_core.specs.Forms.{maybe, next, IsItemName, IsValue, type_, nesting_limit, begins_with_llvm}
 use Rattle.ir_core.specs.Instructions.{next_alignment}
-use Rattle.ir_core.specs.Language.{IsPlainInit, InitForm, PlainInit, SquareInit, BracesInit, element_of, init_form, no_element, init_in, some_init, constness, section_word, comdat_word, kept_words, global, type_def}
+use Rattle.ir_core.specs.Language.{IsPlainInit, InitForm, PlainInit, SquareInit, BracesInit, element_of, init_form, init_in, some_init, constness, section_word, comdat_word, kept_words, global, type_def}
 use Rattle.ir_core.specs.Text.{name_text, quoted, type_text, number_text, local_text, global_name_text, init_text, initial_text, spaced_words, constness_text, align_text, global_text, type_def_text}
 use Rattle.ir_core.specs.Lines.{type_unlined, global_unlined}
 use Rattle.text_laws.proofs.Rows.{Bare, bare, Outer, NoBrace}
@@ -80,7 +80,7 @@ form_says E law ty s BracesInit init g =
     says_of (init_text ty) (init_form E ty BracesInit) (good_done a.rest) (braces_text ty a.value) (says_braced element_text E Braces a.value (all_say element_text E law a.value (good_list 125 E a.value a.front)))
 
 in_says : (depth : ℕ) (ty : Ty) → IsSized ty → (init : Init) → Good (init_in depth ty) init → Says (init_text ty init) (init_in depth ty) init
-in_says zero ty s init g = let f = good_any g in says_any f.0 (form_says no_element (λ e h. absurd h.is) ty s f.0 init f.1)
+in_says zero ty s init g = plain_init ty s init g
 in_says (suc depth) ty s init g = let f = good_any g in says_any f.0 (form_says (element_of (init_in depth)) (element_says (init_in depth) (in_says depth)) ty s f.0 init f.1)
 
 initial_says : (ty : Ty) → IsSized ty → (init : Option Init) → Good (maybe None (some_init ty)) init → Says (initial_text ty init) (maybe None (some_init ty)) init

@@ -6,8 +6,8 @@ use Rattle.ir_core.specs.declared.types.Ty.TheOpen.{Ty-F}
 use Rattle.ir_core.specs.declared.types.Ty.TheVariants.{Void, Int as IntTy, Ptr, Array, Struct, Named, rolls-Void, rolls-Int, rolls-Ptr, rolls-Array, rolls-Struct, rolls-Named}
 use Rattle.ir_core.specs.Numbers.{is_negative, value_of}
 use Rattle.ir_core.specs.Tokens.{Lexeme, Number}
-use Rattle.ir_core.specs.Spell.{one, IsWordIn, InTable}
-use Rattle.ir_core.specs.Forms.{IsNatural, integer_types, default_space, TypeForm, Integer, Pointer, NamedForm, ArrayForm, StructForm, array_of, no_type, type_form, type_in, nesting_limit, type_, result_type}
+use Rattle.ir_core.specs.Spell.{one, any, IsWordIn, InTable}
+use Rattle.ir_core.specs.Forms.{IsNatural, integer_types, default_space, FlatForm, Integer, Pointer, NamedForm, flat_form, TypeForm, Flat, ArrayForm, StructForm, array_of, type_form, type_in, nesting_limit, type_, result_type}
 use Rattle.ir_core.specs.Text.{type_text, type_layer, local_text, in_spaces}
 use Rattle.text_laws.proofs.Rows.{Bare, bare}
 use Rattle.text_laws.proofs.Joined.{Gives}
@@ -87,21 +87,27 @@ array_says T law ty g =
     (says_mark 91 refl refl (says_then a (natural_says (2 ^ 64) (omega arith) a.value a.front) (λ rest e. refl) (says_space (says_word (codes "x") refl (λ rest e. refl) (says_space
     (says_then b (law b.value b.front) (λ rest e. refl) (says_mark 93 refl refl (says_done (Array a.value b.value)))))))))
 
-form_says : (T : List Lexeme → Ty → Type 0) → ((ty : Ty) → Good T ty → Says (type_text ty) T ty) → (form : TypeForm) (ty : Ty) → Good (type_form T form) ty → Says (type_text ty) (type_form T form) ty
-form_says T law Integer ty g = table_says type_text integer_types integers_are ty g
-form_says T law Pointer ty g =
+flat_says : (form : FlatForm) (ty : Ty) → Good (flat_form form) ty → Says (type_text ty) (flat_form form) ty
+flat_says Integer ty g = table_says type_text integer_types integers_are ty g
+flat_says Pointer ty g =
     let a = good_then (good_then g).rest in
-    says_of type_text (type_form T Pointer) (good_done a.rest) ptr_text (says_word (codes "ptr") refl (λ rest e. e) (says_after a (empty_maybe tt default_space) (says_done Ptr)))
-form_says T law NamedForm ty g =
+    says_of type_text (flat_form Pointer) (good_done a.rest) ptr_text (says_word (codes "ptr") refl (λ rest e. e) (says_after a (empty_maybe tt default_space) (says_done Ptr)))
+flat_says NamedForm ty g =
     let a = good_then g in
-    says_of type_text (type_form T NamedForm) (good_done a.rest) (named_text a.value) (says_last Named (local_says a.value a.front))
+    says_of type_text (flat_form NamedForm) (good_done a.rest) (named_text a.value) (says_last Named (local_says a.value a.front))
+
+any_flat_says : (ty : Ty) → Good (any flat_form) ty → Says (type_text ty) (any flat_form) ty
+any_flat_says ty g = let f = good_any g in says_any f.0 (flat_says f.0 ty f.1)
+
+form_says : (T : List Lexeme → Ty → Type 0) → ((ty : Ty) → Good T ty → Says (type_text ty) T ty) → (form : TypeForm) (ty : Ty) → Good (type_form T form) ty → Says (type_text ty) (type_form T form) ty
+form_says T law Flat ty g = any_flat_says ty g
 form_says T law ArrayForm ty g = array_says T law ty g
 form_says T law StructForm ty g =
     let a = good_then (good_then g).rest in
     says_of type_text (type_form T StructForm) (good_done a.rest) (struct_text a.value) (says_braced type_text T Struct a.value (all_say type_text T law a.value (good_list 125 T a.value a.front)))
 
 in_says : (depth : ℕ) (ty : Ty) → Good (type_in depth) ty → Says (type_text ty) (type_in depth) ty
-in_says zero ty g = let f = good_any g in says_any f.0 (form_says no_type (λ t h. absurd h.is) f.0 ty f.1)
+in_says zero ty g = any_flat_says ty g
 in_says (suc depth) ty g = let f = good_any g in says_any f.0 (form_says (type_in depth) (in_says depth) f.0 ty f.1)
 
 pub type_says : (ty : Ty) → Good type_ ty → Says (type_text ty) type_ ty
@@ -142,10 +148,16 @@ in_integers w ty (inr (inr (inr (inl h)))) = subst IsSized (sym h.1) (sized_laye
 in_integers w ty (inr (inr (inr (inr (inl h))))) = subst IsSized (sym h.1) (sized_layer (Ty-F.Int 64) (IntTy 64) (rolls-Int 64) (record { some = omega arith; most = omega arith }))
 in_integers w ty (inr (inr (inr (inr (inr h))))) = absurd h
 
+flat_sized : (form : FlatForm) (ty : Ty) → Good (flat_form form) ty → IsSized ty
+flat_sized Integer ty g = let s = good_one g in in_integers s.token.bytes ty s.is.1
+flat_sized Pointer ty g = subst IsSized (sym (good_done (good_then (good_then g).rest).rest)) (sized_layer Ty-F.Ptr Ptr rolls-Ptr tt)
+flat_sized NamedForm ty g = let a = good_then g in subst IsSized (sym (good_done a.rest)) (sized_layer (Ty-F.Named a.value) (Named a.value) (rolls-Named a.value) tt)
+
+any_flat_sized : (ty : Ty) → Good (any flat_form) ty → IsSized ty
+any_flat_sized ty g = let f = good_any g in flat_sized f.0 ty f.1
+
 form_sized : (T : List Lexeme → Ty → Type 0) (form : TypeForm) (ty : Ty) → Good (type_form T form) ty → IsSized ty
-form_sized T Integer ty g = let s = good_one g in in_integers s.token.bytes ty s.is.1
-form_sized T Pointer ty g = subst IsSized (sym (good_done (good_then (good_then g).rest).rest)) (sized_layer Ty-F.Ptr Ptr rolls-Ptr tt)
-form_sized T NamedForm ty g = let a = good_then g in subst IsSized (sym (good_done a.rest)) (sized_layer (Ty-F.Named a.value) (Named a.value) (rolls-Named a.value) tt)
+form_sized T Flat ty g = any_flat_sized ty g
 form_sized T ArrayForm ty g =
     let a = good_then (good_then g).rest in
     let b = good_then (good_then a.rest).rest in
@@ -153,7 +165,7 @@ form_sized T ArrayForm ty g =
 form_sized T StructForm ty g = let a = good_then (good_then g).rest in subst IsSized (sym (good_done a.rest)) (sized_layer (Ty-F.Struct a.value) (Struct a.value) (rolls-Struct a.value) tt)
 
 in_sized : (depth : ℕ) (ty : Ty) → Good (type_in depth) ty → IsSized ty
-in_sized zero ty g = let f = good_any g in form_sized no_type f.0 ty f.1
+in_sized zero ty g = any_flat_sized ty g
 in_sized (suc depth) ty g = let f = good_any g in form_sized (type_in depth) f.0 ty f.1
 
 pub type_sized : (ty : Ty) → Good type_ ty → IsSized ty
