@@ -32,7 +32,7 @@ use Rattle.read_forms.specs.Read.{Read, ◌>>=◌, then_read, done, Shrinks, hea
 use Rattle.read_forms.specs.Operands.{as_value}
 use Rattle.read_forms.specs.Forms.{void_types, type_at, result_type_at, attribute_words, attribute_goes, attributes_at, typed_at, target_at, space_goes}
 use Rattle.read_forms.proofs.Readers.{Reads, Free, Begins, one_reads, done_reads, then_reads, then_reads_where, pick_reads, one_begins, then_begins, any_begins, reads_before, reads_as}
-use Rattle.read_forms.proofs.Many.{Stops, shrinks_by, many_reads, many_reads_where, many_then_reads, dropped_begins}
+use Rattle.read_forms.proofs.Many.{many_begins, Stops, shrinks_by, many_reads, many_reads_where, many_then_reads, dropped_begins}
 use Rattle.read_forms.proofs.Choices.{maybe_reads, either, either_reads, either_begins}
 use Rattle.read_forms.proofs.TokenTests.{local_kind, label_kind, some_is, table_tests, table_only, table_found, lined_tests, contains_in, fresh, is_spelled, spells_found, not_spelled, not_in, no_word, no_word_spelled}
 use Rattle.read_forms.proofs.Lists.{mark_reads, list_reads}
