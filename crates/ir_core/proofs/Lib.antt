@@ -3,9 +3,7 @@ pub mod Lexing
 pub mod Literals
 pub mod Off
 pub mod PassiveLines
-pub mod Printed
 pub mod Runs
-pub mod Spelled
 pub mod EntryPoints
 pub mod Standing
 pub mod Crosses

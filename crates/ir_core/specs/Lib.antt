@@ -16,7 +16,6 @@ pub mod FirstForm
 pub mod Lines
 pub mod MachineOff
 pub mod Notes
-pub mod ReadsBack
 pub mod Wrappers
 pub mod Places
 pub mod Formed

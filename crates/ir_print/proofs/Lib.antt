@@ -1,8 +1,2 @@
 pub mod Bodies
-pub mod Inits
-pub mod PrintedFunctions
-pub mod PrintedInstructions
-pub mod PrintedNumbers
-pub mod PrintedOperands
-pub mod ReadBack
 pub mod Signed

@@ -1,7 +1,8 @@
 -- Numbers of a width: which of them have a sign.
 use Rattle.std.proofs.Common.{◌≡◌, ℕ, zero, suc, ◌+◌, ◌-◌, ◌^◌, ◌<◌, ◌≤◌, List, ◌++◌, codes, decimal, nat_lt, if◌then◌else◌, arith, refl, ap, ◌∙◌}
 use Rattle.std.proofs.lemmas.Bool.{lt-ltb, le-ltb}
-use Rattle.std.proofs.Math.Nat.{pow-le-pow_right, two-pow-succ}
+use Rattle.std.proofs.Math.Nat.{pow-le-pow_right}
+use Rattle.text_laws.proofs.Values.{half_of}
 use Rattle.ir_print.specs.Signed.{plain_or_signed}
 
 -- a number's text where numbers below half of all have no sign
@@ -16,11 +17,6 @@ high all half n h k = rw (lt-ltb n all k, le-ltb n half h)
 
 above : (all half n : ℕ) → all ≤ n → shown all half n ≡ decimal n
 above all half n h = rw (le-ltb n all h)
-
--- half of all the numbers of a width
-pub half_of : (width : ℕ) → 0 < width → 2 ^ width ≡ 2 ^ (width - 1) + 2 ^ (width - 1)
-half_of zero h = omega arith
-half_of (suc k) h = let e : suc k - 1 ≡ k = omega arith in rw e (two-pow-succ k)
 
 -- the one number of no bits has no sign
 at_zero : (n : ℕ) → shown 1 1 n ≡ decimal n

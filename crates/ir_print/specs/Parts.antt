@@ -3,8 +3,7 @@ use Rattle.std.specs.Prelude.{ℕ, List, ◌++◌, codes, map}
 use Rattle.std.specs.List.{flat_map}
 use Rattle.ir_core.specs.declared.module.Function.{Function}
 use Rattle.ir_core.specs.declared.module.Global.{Global}
-use Rattle.ir_core.specs.declared.module.Element.{Element}
-use Rattle.ir_core.specs.Text.{spaced_words, type_text, global_name_text, constness_text, init_text, all_led, heading_text, param_text, param_type_text, block_text}
+use Rattle.ir_core.specs.Text.{spaced_words, type_text, global_name_text, constness_text, all_led, heading_text, param_text, param_type_text, block_text}
 
 -- a function's heading up to its parameters
 abbrev pub heading_start : Function → List ℕ
@@ -13,10 +12,6 @@ heading_start f = spaced_words f.words ++ type_text f.ret ++ codes " " ++ global
 -- a function's heading behind its parameters
 abbrev pub heading_end : Function → List ℕ
 heading_end f = codes ")" ++ all_led (codes " ") f.groups
-
--- a part of an initializer, with its type
-abbrev pub element_text : Element → List ℕ
-element_text e = type_text e.ty ++ codes " " ++ init_text e.ty e.init
 
 -- a global up to its type
 abbrev pub global_start : Global → List ℕ

@@ -1,7 +1,6 @@
 //! The text of modules, their types and their globals.
 ghost use Rattle.std.specs.Prelude.{◌≡◌, ◌≤◌, ◌++◌, codes, length, map, OnOk, IfOk};
-ghost use Rattle.ir_core.specs.FirstForm.{HasOutForm};
-ghost use Rattle.ir_core.specs.ReadsBack.{ReadsBack};
+ghost use Rattle.ir_core.specs.Formed.{Formed, ReadsBack};
 ghost use Rattle.ir_core.specs.Text.{
   Text,
   all_led,
@@ -13,7 +12,8 @@ ghost use Rattle.ir_core.specs.Text.{
   type_text,
 };
 ghost use Rattle.ir_core.specs.Tokens.{text_limit};
-ghost use Rattle.ir_print.specs.Parts.{element_text, global_start};
+ghost use Rattle.ir_print.specs.Parts.{global_start};
+ghost use Rattle.text_laws.specs.Elements.{element_text};
 
 use crate::instructions::write_align;
 use crate::names::{write_global_name, write_local, write_quoted};
@@ -127,10 +127,11 @@ impl Printed for Global {
     }
 }
 
-/// The canonical text of the module. Reading it gives a module of the first form back, but for its lines.
+/// The canonical text of the module. Where some text spells the module, and the canonical one is of at most 4,194,304 bytes,
+/// reading it gives the module back, but for its lines.
 pub fn print_module(alloc: Heap, m: &Module) -> Result<List<u8>, OutOfMemory>
     ensures text { IfOk result (λ text. text ≡ Text m.now) }
-    ensures back { IfOk result (λ text. HasOutForm m.now → length text ≤ text_limit → ReadsBack text m.now) }
+    ensures back { IfOk result (λ text. Formed m.now → length text ≤ text_limit → ReadsBack text m.now) }
 {
     let mut out = Writer::new(alloc);
     out.lines(m.prelude.as_slice())?;

@@ -5,13 +5,15 @@ use Rattle.std.specs.Str.{bytes_eq}
 use Rattle.std.specs.FinMap as fin
 use Rattle.std.proofs.lemmas.Bool.{and_parts, le-leb, eq-eqb, eqb-true, false_from_ne_true}
 use Rattle.std.proofs.lemmas.Slice.Eq.{bytes_eq-Decides}
+use Rattle.ir_core.specs.declared.types.Ty.{Ty}
+use Rattle.ir_core.specs.FirstForm.{is_scalar}
 use Rattle.ir_core.specs.declared.instructions.Value.{Value}
 use Rattle.ir_core.specs.declared.instructions.Value.TheVariants.{Int as IntValue, Null, Local as Register, Global as GlobalValue}
 use Rattle.ir_core.specs.declared.instructions.Typed.{Typed}
 use Rattle.ir_core.specs.declared.instructions.Case.{Case}
 use Rattle.ir_core.specs.declared.instructions.RmwOp.{RmwOp}
 use Rattle.ir_core.specs.declared.instructions.Kind.{Kind}
-use Rattle.ir_core.specs.declared.instructions.Kind.TheVariants.{Bin, ICmp, Cast, Select, Phi, Alloca, Load as LoadInst, Store as StoreInst, Rmw, Gep, Fence, Call, Br, CondBr, Switch, Ret, Unreachable}
+use Rattle.ir_core.specs.declared.instructions.Kind.TheVariants.{Bin, ICmp, Cast, Select, Phi, Alloca, Load as LoadInst, Store as StoreInst, Rmw, Gep, Fence, Call, Br, CondBr, Switch, Ret, Unreachable as UnreachableInst}
 use Rattle.ir_core.specs.declared.instructions.Inst.{Inst}
 use Rattle.ir_core.specs.declared.module.Module.{Module}
 use Rattle.ir_core.specs.Layout.{Size}
@@ -25,14 +27,14 @@ use Rattle.mem_model.specs.declared.memory.Word.{Word}
 use Rattle.mem_model.specs.declared.memory.Word.TheVariants.{Int, Ptr as Address}
 use Rattle.mem_model.specs.declared.memory.Cell.{Cell}
 use Rattle.mem_model.specs.declared.step.Trap.{Trap}
-use Rattle.mem_model.specs.declared.step.Trap.TheVariants.{Constant, TooLarge}
+use Rattle.mem_model.specs.declared.step.Trap.TheVariants.{Constant, TooLarge, Unreachable}
 use Rattle.mem_model.specs.Words.{cell_size, word_in}
 use Rattle.mem_model.specs.Memory.{Memory, Shares, access, unless, bytes_at, load_from, store_to, Load, Store, block_limit}
 use Rattle.mem_model.specs.Thread.{Name, Place, Registers, Code, Frame, ThreadState, Spot, Where, InStack, Elsewhere, assigned, same_spot, find_block, or_else, find_in, put_block, put_in}
 use Rattle.ir_core.specs.Places.{labels, function_place, place_in, PhiNode, edge_from, label_at, inst_at}
-use Rattle.mem_model.specs.Values.{register_word, value_word, and_then}
+use Rattle.mem_model.specs.Values.{register_word, value_word, operand, and_then}
 use Rattle.mem_model.specs.Update.{Updated, update_number, update_at}
-use Rattle.mem_model.specs.Next.{NextStep, Local, Trapped, with_found, with_number, with_pointer, with_result, with_frames, code_on, goes_on, phi_word, with_phis, enters, to_block, to_label, is_case, case_for, loads, stores, updates, allocates, Callee, CallsInit, CallsDeinit, CallsFunction, CallsOther, callee_of, called, next_call, returns, next_kind, next_inst, next_frames, Next, resumed_frames}
+use Rattle.mem_model.specs.Next.{NextStep, Local, Trapped, with_found, with_number, with_pointer, with_result, with_scalar, with_frames, code_on, goes_on, phi_word, with_phis, enters, to_block, to_label, is_case, case_for, loads, stores, updates, allocates, Callee, CallsInit, CallsDeinit, CallsFunction, CallsOther, callee_of, called, next_call, returns, next_kind, next_inst, next_frames, Next, resumed_frames}
 use Rattle.mem_model.specs.Launching.{thread_at}
 use Rattle.mem_laws.specs.StepLaws.{StandsAt, IsNot, PhisSwap, SwitchFirst, SwitchOther, CallBegins, ReturnGoesBack, CallReturns, ReturnLeaves, AllocaMakes, HasNoNewer, FirstThreadIsNew, NamesAreNew, AllocaEnds, UpdateInOne, UpdateOfConstant}
 use Rattle.mem_model.proofs.AccessTests.{begin, in_block}
@@ -95,7 +97,7 @@ passes n other (c ∷ cs) behind none =
 takes : (n : ℕ) (other : Name) (c : Case) (behind : List Case) → c.value.value ≡ IntValue n → case_for n other (c ∷ behind) ≡ c.block
 takes n other c behind e = ap (λ v. if is_case n v then c.block else case_for n other behind) e ∙ ap (λ b. if b then c.block else case_for n other behind) (eq-eqb n n refl)
 
-switches : (m : Module) (t : ThreadState) (f : Frame) (rest : List Frame) (result : Option Name) (on : Typed) (other : Name) (cases : List Case) (n : ℕ) → StandsAt m t f rest result (Switch on other cases) → value_word m f.code.registers on.value ≡ Ok (Int n) →
+switches : (m : Module) (t : ThreadState) (f : Frame) (rest : List Frame) (result : Option Name) (on : Typed) (other : Name) (cases : List Case) (n : ℕ) → StandsAt m t f rest result (Switch on other cases) → operand m f.code.registers on.ty on.value ≡ Ok (Int n) →
     Next m t ≡ to_label m t f rest (case_for n other cases)
 switches m t f rest result on other cases n s e = next_is m t f rest result (Switch on other cases) s ∙ ap (λ found. with_found found (λ v. with_number v (λ n. to_label m t f rest (case_for n other cases)))) e
 
@@ -201,6 +203,13 @@ keeps_result : {A : Type 0} (o : Option A) (go : A → NextStep) → ((x : A) �
 keeps_result None go h = tt
 keeps_result (Some x) go h = h x
 
+keeps_scalar : (ty : Ty) (go : NextStep) → Keeps go → Keeps (with_scalar ty go)
+keeps_scalar ty go h = by_test (is_scalar ty)
+  where
+    by_test : (scalar : Bool) → Keeps (if scalar then go else Trapped Unreachable)
+    by_test true = h
+    by_test false = tt
+
 both_none : (a b : Option (List Byte)) → or_else a b ≡ None → (a ≡ None) × (b ≡ None)
 both_none None b e = (refl, e)
 both_none (Some x) b e = let f : ⊥ = cc in absurd f
@@ -275,11 +284,11 @@ keeps_returns t f (g ∷ rest) h back (Some word) = λ n low. (both_none _ _ (h 
 keeps_kind : (m : Module) (t : ThreadState) (f : Frame) (rest : List Frame) → NoneFrom t.own t.counter (f ∷ rest) → (x : Option Name) (k : Kind) → Keeps (next_kind m t f rest x k)
 keeps_kind m t f rest h x (Bin op flags ty a b) = search (keeps_found, keeps_number, h) depth 12
 keeps_kind m t f rest h x (ICmp pred ty a b) = search (keeps_found, keeps_result, h)
-keeps_kind m t f rest h x (Cast op from to) = search (keeps_found, h)
+keeps_kind m t f rest h x (Cast op from to) = search (keeps_found, keeps_scalar, h)
 keeps_kind m t f rest h x (Select c a b) = search (keeps_found, keeps_number, h) depth 12
 keeps_kind m t f rest h x (Phi ty edges) = tt
 keeps_kind m t f rest h x (Alloca ty align) = keeps_allocates m t f rest h x (Size m.types ty)
-keeps_kind m t f rest h x (LoadInst ty at order align) = search (keeps_found, keeps_pointer, keeps_loads m t f rest h)
+keeps_kind m t f rest h x (LoadInst ty at order align) = search (keeps_found, keeps_pointer, keeps_scalar, keeps_loads m t f rest h)
 keeps_kind m t f rest h x (StoreInst value at order align) = search (keeps_found, keeps_pointer, keeps_stores m t f rest h)
 keeps_kind m t f rest h x (Rmw op at value order align) = search (keeps_found, keeps_pointer, keeps_number, keeps_updates m t f rest h)
 keeps_kind m t f rest h x (Gep inbounds ty base path) = search (keeps_found, keeps_pointer, keeps_result, h) depth 12
@@ -290,7 +299,7 @@ keeps_kind m t f rest h x (CondBr c then_to else_to) = search (keeps_found, keep
 keeps_kind m t f rest h x (Switch on other cases) = search (keeps_found, keeps_number, keeps_label m t f rest h)
 keeps_kind m t f rest h x (Ret None) = keeps_returns t f rest h f.code.back None
 keeps_kind m t f rest h x (Ret (Some v)) = search (keeps_found, keeps_returns t f rest h f.code.back)
-keeps_kind m t f rest h x Unreachable = tt
+keeps_kind m t f rest h x UnreachableInst = tt
 
 keeps_inst : (m : Module) (t : ThreadState) (f : Frame) (rest : List Frame) → NoneFrom t.own t.counter (f ∷ rest) → (o : Option Inst) → Keeps (next_inst m t f rest o)
 keeps_inst m t f rest h None = tt

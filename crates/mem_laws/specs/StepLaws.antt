@@ -28,7 +28,7 @@ use Rattle.mem_model.specs.MemoryLaws.{Lies}
 use Rattle.mem_model.specs.Memory.{Memory, Header, Shares, Load, Store, block_limit}
 use Rattle.mem_model.specs.Thread.{Name, Registers, Answers, Frame, ThreadState, Spot, bound, find_in}
 use Rattle.ir_core.specs.Places.{inst_at, labels, label_at, place_in, phis_at, edge_from}
-use Rattle.mem_model.specs.Values.{value_word, operand_words}
+use Rattle.mem_model.specs.Values.{value_word, operand, operand_words}
 use Rattle.mem_model.specs.Update.{Updated, Update}
 use Rattle.mem_model.specs.Launching.{first_thread}
 use Rattle.mem_model.specs.Next.{Local, Pending, Leaves, with_frames, goes_on, to_label, CallsFunction, callee_of, called, Next, resumed}
@@ -57,13 +57,13 @@ IsNot n c = c.value.value ≡ IntValue n → ⊥
 abbrev pub SwitchFirst : Type 0
 SwitchFirst =
     (m : Module) (t : ThreadState) (f : Frame) (rest : List Frame) (result : Option Name) (on : Typed) (other : Name) (before behind : List Case) (c : Case) (n : ℕ) → StandsAt m t f rest result (Switch on other (before ++ c ∷ behind)) →
-    value_word m f.code.registers on.value ≡ Ok (Int n) → All (IsNot n) before → c.value.value ≡ IntValue n → Next m t ≡ to_label m t f rest c.block
+    operand m f.code.registers on.ty on.value ≡ Ok (Int n) → All (IsNot n) before → c.value.value ≡ IntValue n → Next m t ≡ to_label m t f rest c.block
 
 -- and to its other block where no case is of the number
 abbrev pub SwitchOther : Type 0
 SwitchOther =
     (m : Module) (t : ThreadState) (f : Frame) (rest : List Frame) (result : Option Name) (on : Typed) (other : Name) (cases : List Case) (n : ℕ) → StandsAt m t f rest result (Switch on other cases) →
-    value_word m f.code.registers on.value ≡ Ok (Int n) → All (IsNot n) cases → Next m t ≡ to_label m t f rest other
+    operand m f.code.registers on.ty on.value ≡ Ok (Int n) → All (IsNot n) cases → Next m t ≡ to_label m t f rest other
 
 -- ---- calls and returns
 

@@ -2,6 +2,7 @@
 -- (LLVM Language Reference, "Instruction Reference").
 use Rattle.std.specs.Prelude.{ℕ, ◌+◌, List, [], ◌∷◌, length, replicate, slice_get, Option, Some, None, Result, Ok, Err, Bool, false, ◌==◌, nat_le, pos, if◌then◌else◌}
 use Rattle.std.specs.Str.{bytes_eq}
+use Rattle.ir_core.specs.declared.types.Ty.{Ty}
 use Rattle.ir_core.specs.declared.instructions.Value.{Value}
 use Rattle.ir_core.specs.declared.instructions.Value.TheVariants.{Int as IntValue, Global as GlobalValue}
 use Rattle.ir_core.specs.declared.instructions.Typed.{Typed}
@@ -15,6 +16,7 @@ use Rattle.ir_core.specs.declared.module.Function.{Function}
 use Rattle.ir_core.specs.declared.module.Block.{Block}
 use Rattle.ir_core.specs.declared.module.Param.{Param}
 use Rattle.ir_core.specs.EntryPoints.{target_init, target_deinit}
+use Rattle.ir_core.specs.FirstForm.{is_scalar}
 use Rattle.ir_core.specs.Layout.{Size, Offset}
 use Rattle.mem_model.specs.declared.memory.BlockName.TheVariants.{Stack}
 use Rattle.mem_model.specs.declared.memory.Ptr.{Ptr}
@@ -30,7 +32,7 @@ use Rattle.mem_model.specs.Memory.{Given, block_limit}
 use Rattle.mem_model.specs.Eval.{Eval, compared}
 use Rattle.mem_model.specs.Thread.{Name, Place, Registers, Code, Frame, ThreadState, Where, InStack, Elsewhere, where_is, given_of, assigned, bound, find_in, put_in, load_own, store_own}
 use Rattle.ir_core.specs.Places.{inst_at, labels, label_at, place_in, function_place, PhiNode, phis_at, edge_from}
-use Rattle.mem_model.specs.Values.{cell_of, width_of, value_word, and_then, operand_words, converted, path_of, moved, updated}
+use Rattle.mem_model.specs.Values.{cell_of, width_of, value_word, operand, and_then, operand_words, converted, path_of, moved, updated}
 
 -- ---- events: what a thread does to what it shares with others
 
@@ -70,6 +72,10 @@ with_pointer (Address p) go = go p
 abbrev pub with_result : {A : Type 0} → Option A → (A → NextStep) → NextStep
 with_result None go = Trapped Unreachable
 with_result (Some n) go = go n
+
+-- no checked module loads another type or converts to one
+abbrev pub with_scalar : Ty → NextStep → NextStep
+with_scalar ty go = if is_scalar ty then go else Trapped Unreachable
 
 -- ---- one step
 
@@ -193,36 +199,36 @@ returns t (f ∷ rest) back (Some word) = Local (goes_on t f rest back word)
 
 abbrev pub next_kind : Module → ThreadState → Frame → List Frame → Option Name → Kind → NextStep
 next_kind m t f rest x (Bin op flags ty a b) =
-    with_found (value_word m f.code.registers a) (λ v. with_number v (λ i. with_found (value_word m f.code.registers b) (λ w. with_number w (λ j.
+    with_found (operand m f.code.registers ty a) (λ v. with_number v (λ i. with_found (operand m f.code.registers ty b) (λ w. with_number w (λ j.
     with_found (Eval op flags (width_of ty) i j) (λ n. Local (goes_on t f rest x (Int n)))))))
 next_kind m t f rest x (ICmp pred ty a b) =
-    with_found (value_word m f.code.registers a) (λ v. with_found (value_word m f.code.registers b) (λ w.
+    with_found (operand m f.code.registers ty a) (λ v. with_found (operand m f.code.registers ty b) (λ w.
     with_result (compared pred (width_of ty) v w) (λ n. Local (goes_on t f rest x (Int n)))))
 next_kind m t f rest x (Cast op from to) =
-    with_found (value_word m f.code.registers from.value) (λ v. with_found (converted op (width_of from.ty) (width_of to) v) (λ w. Local (goes_on t f rest x w)))
+    with_found (operand m f.code.registers from.ty from.value) (λ v. with_scalar to (with_found (converted op (width_of from.ty) (width_of to) v) (λ w. Local (goes_on t f rest x w))))
 next_kind m t f rest x (Select c a b) =
-    with_found (value_word m f.code.registers c.value) (λ v. with_number v (λ n.
-    with_found (value_word m f.code.registers a.value) (λ then_word. with_found (value_word m f.code.registers b.value) (λ else_word.
+    with_found (operand m f.code.registers c.ty c.value) (λ v. with_number v (λ n.
+    with_found (operand m f.code.registers a.ty a.value) (λ then_word. with_found (operand m f.code.registers b.ty b.value) (λ else_word.
     Local (goes_on t f rest x (if n == 0 then else_word else then_word))))))
 next_kind m t f rest x (Phi ty edges) = Trapped Unreachable
 next_kind m t f rest x (Alloca ty align) = allocates t f rest x (Size m.types ty)
 next_kind m t f rest x (LoadInst ty at order align) =
-    with_found (value_word m f.code.registers at.value) (λ v. with_pointer v (λ p. loads t f rest x (cell_of ty) (where_is p)))
+    with_found (operand m f.code.registers at.ty at.value) (λ v. with_pointer v (λ p. with_scalar ty (loads t f rest x (cell_of ty) (where_is p))))
 next_kind m t f rest x (StoreInst value at order align) =
-    with_found (value_word m f.code.registers value.value) (λ word. with_found (value_word m f.code.registers at.value) (λ v. with_pointer v (λ p. stores t f rest (cell_of value.ty) word (where_is p))))
+    with_found (operand m f.code.registers value.ty value.value) (λ word. with_found (operand m f.code.registers at.ty at.value) (λ v. with_pointer v (λ p. stores t f rest (cell_of value.ty) word (where_is p))))
 next_kind m t f rest x (Rmw op at value order align) =
-    with_found (value_word m f.code.registers at.value) (λ v. with_pointer v (λ p. with_found (value_word m f.code.registers value.value) (λ w. with_number w (λ n.
+    with_found (operand m f.code.registers at.ty at.value) (λ v. with_pointer v (λ p. with_found (operand m f.code.registers value.ty value.value) (λ w. with_number w (λ n.
     updates t f rest x (width_of value.ty) op n (where_is p)))))
 next_kind m t f rest x (Gep inbounds ty base path) =
-    with_found (value_word m f.code.registers base.value) (λ v. with_pointer v (λ p. with_found (path_of m f.code.registers path) (λ indices.
+    with_found (operand m f.code.registers base.ty base.value) (λ v. with_pointer v (λ p. with_found (path_of m f.code.registers path) (λ indices.
     with_result (Offset m.types ty indices) (λ offset. Local (goes_on t f rest x (Address (moved p offset)))))))
 next_kind m t f rest x (Fence order) = Local (goes_past t f rest)
 next_kind m t f rest x (Call tail_word ret callee operands) = next_call m t f rest x operands (callee_of m callee)
 next_kind m t f rest x (Br to) = to_label m t f rest to
 next_kind m t f rest x (CondBr c then_to else_to) =
-    with_found (value_word m f.code.registers c.value) (λ v. with_number v (λ n. to_label m t f rest (if n == 0 then else_to else then_to)))
+    with_found (operand m f.code.registers c.ty c.value) (λ v. with_number v (λ n. to_label m t f rest (if n == 0 then else_to else then_to)))
 next_kind m t f rest x (Switch on other cases) =
-    with_found (value_word m f.code.registers on.value) (λ v. with_number v (λ n. to_label m t f rest (case_for n other cases)))
+    with_found (operand m f.code.registers on.ty on.value) (λ v. with_number v (λ n. to_label m t f rest (case_for n other cases)))
 next_kind m t f rest x (Ret None) = returns t rest f.code.back None
 next_kind m t f rest x (Ret (Some v)) = with_found (value_word m f.code.registers v.value) (λ word. returns t rest f.code.back (Some word))
 next_kind m t f rest x UnreachableInst = Trapped Unreachable

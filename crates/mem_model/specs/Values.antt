@@ -1,8 +1,8 @@
 -- Operands as words, and words as others (LLVM Language Reference, "Constants", "Conversion Operations", "getelementptr", "atomicrmw").
-use Rattle.std.specs.Prelude.{ℕ, ◌-◌, ◌%◌, ◌^◌, ℤ, pos, ◌+ℤ◌, ◌-ℤ◌, int_lt, nat_lt, bit_and, bit_or, bit_xor, List, [], ◌∷◌, Option, Some, None, Result, Ok, Err, if◌then◌else◌}
+use Rattle.std.specs.Prelude.{ℕ, ◌-◌, ◌%◌, ◌^◌, ℤ, pos, ◌+ℤ◌, ◌-ℤ◌, int_lt, nat_lt, bit_and, bit_or, bit_xor, List, [], ◌∷◌, Bool, true, false, ◌&&◌, Option, Some, None, Result, Ok, Err, if◌then◌else◌}
 use Rattle.std.specs.Int.{int_wrap, w64}
 use Rattle.ir_core.specs.declared.types.Ty.{Ty}
-use Rattle.ir_core.specs.declared.types.Ty.TheVariants.{Int as IntTy}
+use Rattle.ir_core.specs.declared.types.Ty.TheVariants.{Int as IntTy, Ptr as PtrTy}
 use Rattle.ir_core.specs.declared.instructions.Value.{Value}
 use Rattle.ir_core.specs.declared.instructions.Value.TheVariants.{Int as IntValue, Null, Local as Register, Global as GlobalValue}
 use Rattle.ir_core.specs.declared.instructions.Typed.{Typed}
@@ -22,6 +22,7 @@ use Rattle.mem_model.specs.declared.step.Trap.{Trap}
 use Rattle.mem_model.specs.declared.step.Trap.TheVariants.{Unassigned, Unreachable, NotNumber}
 use Rattle.mem_model.specs.Eval.{signed, wrapped}
 use Rattle.mem_model.specs.Thread.{Registers}
+use Rattle.ir_core.specs.FirstForm.{is_width}
 use Rattle.ir_core.specs.Places.{function_place, global_place}
 
 -- ---- types
@@ -57,7 +58,20 @@ abbrev pub and_then : {A B : Type 0} → Result A Trap → (A → Result B Trap)
 and_then (Err e) go = Err e
 and_then (Ok x) go = go x
 
--- the words of operands, one after another
+-- an integer of the type's width, or an address where the type is a pointer's
+abbrev pub is_word_of : Ty → Word → Bool
+is_word_of (IntTy width) (Int n) = is_width width && nat_lt n (2 ^ width)
+is_word_of PtrTy (Address p) = true
+is_word_of _ _ = false
+
+abbrev pub of_type : Ty → Word → Result Word Trap
+of_type ty word = if is_word_of ty word then Ok word else Err Unreachable
+
+-- the word of an operand, which is of its type in every checked module
+abbrev pub operand : Module → Registers → Ty → Value → Result Word Trap
+operand m r ty v = and_then (value_word m r v) (of_type ty)
+
+-- the words of a call's operands, one after another
 abbrev pub operand_words : Module → Registers → List Typed → Result (List Word) Trap
 operand_words m r [] = Ok []
 operand_words m r (v ∷ vs) = and_then (value_word m r v.value) (λ word. and_then (operand_words m r vs) (λ words. Ok (word ∷ words)))
@@ -82,7 +96,7 @@ index_of ty (Address p) = Err Unreachable
 
 abbrev pub path_of : Module → Registers → List Typed → Result (List ℤ) Trap
 path_of m r [] = Ok []
-path_of m r (v ∷ vs) = and_then (value_word m r v.value) (λ word. and_then (index_of v.ty word) (λ i. and_then (path_of m r vs) (λ path. Ok (i ∷ path))))
+path_of m r (v ∷ vs) = and_then (operand m r v.ty v.value) (λ word. and_then (index_of v.ty word) (λ i. and_then (path_of m r vs) (λ path. Ok (i ∷ path))))
 
 -- an offset further, modulo 2^64; a number stays one
 abbrev pub moved : Ptr → ℤ → Ptr

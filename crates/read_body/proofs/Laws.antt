@@ -32,7 +32,7 @@ use Rattle.read_forms.specs.Read.{Read, ◌>>=◌, then_read, done, Shrinks, hea
 use Rattle.read_forms.specs.Operands.{as_value}
 use Rattle.read_forms.specs.Forms.{void_types, type_at, result_type_at, attribute_words, attribute_goes, attributes_at, typed_at, target_at, space_goes}
 use Rattle.read_forms.proofs.Readers.{Reads, Free, Begins, one_reads, done_reads, then_reads, then_reads_where, pick_reads, one_begins, then_begins, any_begins, reads_before, reads_as}
-use Rattle.read_forms.proofs.Many.{Stops, shrinks_by, many_reads, many_reads_where, many_then_reads, dropped_begins}
+use Rattle.read_forms.proofs.Many.{many_begins, Stops, shrinks_by, many_reads, many_reads_where, many_then_reads, dropped_begins}
 use Rattle.read_forms.proofs.Choices.{maybe_reads, either, either_reads, either_begins}
 use Rattle.read_forms.proofs.TokenTests.{local_kind, label_kind, some_is, table_tests, table_only, table_found, lined_tests, contains_in, fresh, is_spelled, spells_found, not_spelled, not_in, no_word, no_word_spelled}
 use Rattle.read_forms.proofs.Lists.{mark_reads, list_reads}
@@ -713,3 +713,17 @@ label_follows (t ∷ ts) e = other_no_end t Label (label_kind t.kind e) refl ref
 
 pub blocks_reads : Reads (many_at label_goes block_at) (many block) (λ ts. Stops label_goes ts × Stops goes_on ts)
 blocks_reads = many_reads_where label_goes block_at block (Stops goes_on) block_reads block_first refl label_follows
+
+-- a block's first instruction is no label
+no_label : (t : Lexeme) → ((t.kind ≡ Local) ⊎ (t.kind ≡ Word)) → label_goes (Some t) ≡ false
+no_label t (inl k) = ap is_label k
+no_label t (inr k) = ap is_label k
+
+plain_no_label : Begins plain (λ t. label_goes (Some t) ≡ false)
+plain_no_label = closed_begins (any plain_form) _ (any_begins plain_form _ (plain_form_begins (λ f t. label_goes (Some t) ≡ false) (λ t f k e. no_label t k)))
+
+last_no_label : Begins last (λ t. label_goes (Some t) ≡ false)
+last_no_label = then_begins _ _ _ (one_begins (with_line (IsWordIn last_words)) _ (λ t x h. no_label t (inr h.0.0)))
+
+pub body_no_label : (label : List ℕ × ℕ) → Begins (body_of label) (λ t. label_goes (Some t) ≡ false)
+body_no_label label = many_begins plain _ _ plain_no_label (λ insts. then_begins _ _ _ last_no_label)

@@ -8,6 +8,8 @@ mod forms;
 mod last;
 mod plain;
 mod rows;
+#[cfg(test)]
+mod tests;
 mod values;
 mod words;
 

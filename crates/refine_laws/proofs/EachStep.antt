@@ -167,11 +167,11 @@ module _ (m : Module) (l : Launch) (k : ℕ) (g : Function) (there : slice_get m
       let at_main : by_next out t l.threads s.main (Next m s.main) ≡ Some u = ap (λ i. by_next out t i s.main (Next m s.main)) (sym is) ∙ ap (λ x. by_next out t d x (Next m x)) (sym same) ∙ next in
       main_steps s t u n r tie goes (Next m s.main) refl at_main
 
-  is_below : (d : ℕ) → d < l.threads → d ≢ minus_one
-  is_below d low e = below d l.threads minus_one low few e
+  is_below : (d : ℕ) → d < l.threads → d < minus_one
+  is_below d low = below d l.threads minus_one low few
     where
-      below : (a b c : ℕ) → a < b → b < c → a ≡ c → ⊥
-      below a b c p q e = omega arith
+      below : (a b c : ℕ) → a < b → b < c → a < c
+      below a b c p q = omega arith
 
   worker_meets : (s : SourceState) (t u : Team) (d n : ℕ) → (tie : Tie s t n) → (mv : Moves out t d u) → d ≢ l.threads → IsMet s 1 n u
   worker_meets s t u d n tie mv apart =

@@ -1,12 +1,13 @@
 -- What the kernel of a module of the first form does in its first block and in its third.
-use Rattle.std.proofs.Common.{◌≡◌, ◌≢◌, ℕ, zero, suc, ◌-◌, ◌^◌, List, [], ◌∷◌, ◌++◌, map, Bool, true, false, ◌&&◌, not, Option, Some, None, Result, Ok, refl, sym, ap, ◌∙◌, subst, arith, ◌⊎◌, inl, inr}
-use Rattle.std.specs.Prelude.{slice_get, ◌==◌, if◌then◌else◌}
+use Rattle.std.proofs.Common.{◌≡◌, ◌≢◌, ℕ, zero, suc, ◌-◌, ◌<◌, ◌^◌, List, [], ◌∷◌, ◌++◌, map, Bool, true, false, ◌&&◌, not, Option, Some, None, Result, Ok, Err, refl, sym, ap, ◌∙◌, subst, arith, ◌⊎◌, inl, inr}
+use Rattle.std.specs.Prelude.{slice_get, nat_lt, ◌==◌, if◌then◌else◌}
 use Rattle.std.specs.List.{flat_map}
 use Rattle.std.specs.Str.{bytes_eq}
 use Rattle.std.proofs.lemmas.Slice.Eq.{bytes_eq-Decides}
-use Rattle.std.proofs.lemmas.Bool.{and_parts, false_from_ne_true}
+use Rattle.std.proofs.lemmas.Bool.{and_parts, false_from_ne_true, eqb-true}
 use Rattle.std.proofs.lemmas.Bool.Decides.{nat_tests}
 use Rattle.ir_core.specs.declared.types.Ty.{Ty}
+use Rattle.ir_core.specs.declared.types.Ty.TheVariants.{Int as IntTy}
 use Rattle.ir_core.specs.declared.instructions.Value.{Value}
 use Rattle.ir_core.specs.declared.instructions.Value.TheVariants.{Int as IntValue, Null, Local as Register, Global as GlobalValue}
 use Rattle.ir_core.specs.declared.instructions.Typed.{Typed}
@@ -26,10 +27,11 @@ use Rattle.ir_core.specs.FirstForm.{is_function, is_int_of, is_number, is_regist
 use Rattle.mem_model.specs.declared.memory.Word.{Word}
 use Rattle.mem_model.specs.declared.memory.Word.TheVariants.{Int}
 use Rattle.mem_model.specs.declared.step.Trap.{Trap}
+use Rattle.mem_model.specs.declared.step.Trap.TheVariants.{Unreachable}
 use Rattle.mem_model.specs.Eval.{truth, compared}
 use Rattle.mem_model.specs.Thread.{Name, Frame, ThreadState}
 use Rattle.ir_core.specs.Places.{inst_in, block_name, function_place, place_in, PhiNode, with_phi, leading_phis, phis_in}
-use Rattle.mem_model.specs.Values.{register_word, value_word}
+use Rattle.mem_model.specs.Values.{width_of, register_word, value_word, and_then, of_type}
 use Rattle.mem_model.specs.Next.{NextStep, Local, Pending, Leaves, with_found, with_number, with_result, goes_on, to_label, CallsInit, CallsDeinit, defined_at, callee_of, next_call, next_kind, next_inst}
 use Rattle.mem_model.specs.Launching.{is_kernel as is_launched}
 use Rattle.mem_model.proofs.Runs.{some_injective, none_is_not_some}
@@ -44,9 +46,9 @@ minus_one = 2 ^ 32 - 1
 abbrev pub Asks : Option Inst → Name → Type 0
 Asks i x = (m : Module) (t : ThreadState) (f : Frame) (rest : List Frame) → next_inst m t f rest i ≡ Local (goes_on t f rest (Some x) (Int t.answers.init))
 
--- another number than -1 is told from it
+-- a lower number than -1 is told from it
 abbrev pub Tests : Option Inst → Name → Name → Type 0
-Tests i x y = (m : Module) (t : ThreadState) (f : Frame) (rest : List Frame) (n : ℕ) → n ≢ minus_one → f.code.registers x ≡ Some (Int n) → next_inst m t f rest i ≡ Local (goes_on t f rest (Some y) (Int 0))
+Tests i x y = (m : Module) (t : ThreadState) (f : Frame) (rest : List Frame) (n : ℕ) → n < minus_one → f.code.registers x ≡ Some (Int n) → next_inst m t f rest i ≡ Local (goes_on t f rest (Some y) (Int 0))
 
 -- the branch goes to the block with this name
 abbrev pub Branches : Option Inst → Name → Name → Type 0
@@ -91,37 +93,56 @@ sides x a b false h e =
     let p = and_parts (is_minus_one a) (is_register x b) (sym (ap (λ t. if t then is_minus_one b else (is_minus_one a && is_register x b)) h) ∙ e) in
     inr (number_is minus_one a p.0, register_is x b p.1)
 
-abbrev compares : ThreadState → Frame → List Frame → Name → Result Word Trap → Result Word Trap → NextStep
-compares t f rest y a b = with_found a (λ v. with_found b (λ w. with_result (compared Eq 32 v w) (λ n. Local (goes_on t f rest (Some y) (Int n)))))
+int_type : (width : ℕ) (ty : Ty) → is_int_of width ty ≡ true → ty ≡ IntTy width
+int_type width (IntTy w) e = ap IntTy (eqb-true w width e)
+int_type width _ e = let f : ⊥ = cc in absurd f
 
-tests_by : (x y : Name) (a b : Value) → ((a ≡ Register x) × (b ≡ IntValue minus_one)) ⊎ ((a ≡ IntValue minus_one) × (b ≡ Register x)) → (m : Module) (t : ThreadState) (f : Frame) (rest : List Frame) (n : ℕ) → n ≢ minus_one → f.code.registers x ≡ Some (Int n) →
-    compares t f rest y (value_word m f.code.registers a) (value_word m f.code.registers b) ≡ Local (goes_on t f rest (Some y) (Int 0))
-tests_by x y a b (inl p) m t f rest n apart h =
-    ap (λ v. compares t f rest y (value_word m f.code.registers v) (value_word m f.code.registers b)) p.0
-    ∙ ap (λ v. compares t f rest y (register_word (f.code.registers x)) (value_word m f.code.registers v)) p.1
-    ∙ ap (λ o. compares t f rest y (register_word o) (Ok (Int minus_one))) h
-    ∙ ap (λ e. Local (goes_on t f rest (Some y) (Int (truth e)))) (not_same n minus_one apart)
-tests_by x y a b (inr p) m t f rest n apart h =
-    ap (λ v. compares t f rest y (value_word m f.code.registers v) (value_word m f.code.registers b)) p.0
-    ∙ ap (λ v. compares t f rest y (Ok (Int minus_one)) (value_word m f.code.registers v)) p.1
-    ∙ ap (λ o. compares t f rest y (Ok (Int minus_one)) (register_word o)) h
-    ∙ ap (λ e. Local (goes_on t f rest (Some y) (Int (truth e)))) (not_same minus_one n (λ e. apart (sym e)))
+abbrev compares : ThreadState → Frame → List Frame → Name → Ty → Result Word Trap → Result Word Trap → NextStep
+compares t f rest y ty a b =
+    with_found (and_then a (of_type ty)) (λ v. with_found (and_then b (of_type ty)) (λ w. with_result (compared Eq (width_of ty) v w) (λ n. Local (goes_on t f rest (Some y) (Int n)))))
 
-tests : (x y : Name) (k : Kind) → is_test_kind x k ≡ true → (m : Module) (t : ThreadState) (f : Frame) (rest : List Frame) (n : ℕ) → n ≢ minus_one → f.code.registers x ≡ Some (Int n) → next_kind m t f rest (Some y) k ≡ Local (goes_on t f rest (Some y) (Int 0))
-tests x y (ICmp Eq ty a b) e m t f rest n apart h =
+-- a number and -1, both of 32 bits
+abbrev compares_small : ThreadState → Frame → List Frame → Name → Bool → ℕ → NextStep
+compares_small t f rest y small n = with_found (if small then Ok (Int n) else Err Unreachable) (λ v. with_result (compared Eq 32 v (Int minus_one)) (λ k. Local (goes_on t f rest (Some y) (Int k))))
+
+abbrev compares_with_small : ThreadState → Frame → List Frame → Name → Bool → ℕ → NextStep
+compares_with_small t f rest y small n = with_found (if small then Ok (Int n) else Err Unreachable) (λ w. with_result (compared Eq 32 (Int minus_one) w) (λ k. Local (goes_on t f rest (Some y) (Int k))))
+
+is_small : (n : ℕ) → n < minus_one → nat_lt n (2 ^ 32) ≡ true
+is_small n low = grind (arith, nat_tests)
+
+tests_by : (x y : Name) (ty : Ty) (a b : Value) → ty ≡ IntTy 32 → ((a ≡ Register x) × (b ≡ IntValue minus_one)) ⊎ ((a ≡ IntValue minus_one) × (b ≡ Register x)) → (m : Module) (t : ThreadState) (f : Frame) (rest : List Frame) (n : ℕ) → n < minus_one → f.code.registers x ≡ Some (Int n) →
+    compares t f rest y ty (value_word m f.code.registers a) (value_word m f.code.registers b) ≡ Local (goes_on t f rest (Some y) (Int 0))
+tests_by x y ty a b is (inl p) m t f rest n low h =
+    ap (λ ty. compares t f rest y ty (value_word m f.code.registers a) (value_word m f.code.registers b)) is
+    ∙ ap (λ v. compares t f rest y (IntTy 32) (value_word m f.code.registers v) (value_word m f.code.registers b)) p.0
+    ∙ ap (λ v. compares t f rest y (IntTy 32) (register_word (f.code.registers x)) (value_word m f.code.registers v)) p.1
+    ∙ ap (λ o. compares t f rest y (IntTy 32) (register_word o) (Ok (Int minus_one))) h
+    ∙ ap (λ small. compares_small t f rest y small n) (is_small n low)
+    ∙ ap (λ e. Local (goes_on t f rest (Some y) (Int (truth e)))) (not_same n minus_one (λ e. omega arith))
+tests_by x y ty a b is (inr p) m t f rest n low h =
+    ap (λ ty. compares t f rest y ty (value_word m f.code.registers a) (value_word m f.code.registers b)) is
+    ∙ ap (λ v. compares t f rest y (IntTy 32) (value_word m f.code.registers v) (value_word m f.code.registers b)) p.0
+    ∙ ap (λ v. compares t f rest y (IntTy 32) (Ok (Int minus_one)) (value_word m f.code.registers v)) p.1
+    ∙ ap (λ o. compares t f rest y (IntTy 32) (Ok (Int minus_one)) (register_word o)) h
+    ∙ ap (λ small. compares_with_small t f rest y small n) (is_small n low)
+    ∙ ap (λ e. Local (goes_on t f rest (Some y) (Int (truth e)))) (not_same minus_one n (λ e. omega arith))
+
+tests : (x y : Name) (k : Kind) → is_test_kind x k ≡ true → (m : Module) (t : ThreadState) (f : Frame) (rest : List Frame) (n : ℕ) → n < minus_one → f.code.registers x ≡ Some (Int n) → next_kind m t f rest (Some y) k ≡ Local (goes_on t f rest (Some y) (Int 0))
+tests x y (ICmp Eq ty a b) e m t f rest n low h =
     let p = and_parts (is_int_of 32 ty) (are_compared x a b) e in
-    tests_by x y a b (sides x a b (is_register x a) refl p.1) m t f rest n apart h
-tests x y _ e m t f rest n apart h = let g : ⊥ = cc in absurd g
+    tests_by x y ty a b (int_type 32 ty p.0) (sides x a b (is_register x a) refl p.1) m t f rest n low h
+tests x y _ e m t f rest n low h = let g : ⊥ = cc in absurd g
 
 branches : (y user exit : Name) (x : Option Name) (k : Kind) → is_branch_kind y user exit k ≡ true → (m : Module) (t : ThreadState) (f : Frame) (rest : List Frame) → f.code.registers y ≡ Some (Int 0) → next_kind m t f rest x k ≡ to_label m t f rest exit
 branches y user exit x (CondBr c then_to else_to) e m t f rest h =
     let p = and_parts (is_int_of 1 c.ty && is_register y c.value && bytes_eq then_to user) (bytes_eq else_to exit) e in
     let q = and_parts (is_int_of 1 c.ty && is_register y c.value) (bytes_eq then_to user) p.0 in
     let r = and_parts (is_int_of 1 c.ty) (is_register y c.value) q.0 in
-    ap (λ v. goes_by (value_word m f.code.registers v)) (register_is y c.value r.1) ∙ ap (λ o. goes_by (register_word o)) h ∙ ap (to_label m t f rest) ((bytes_eq-Decides else_to exit).0 p.1)
+    ap (λ v. goes_by c.ty (value_word m f.code.registers v)) (register_is y c.value r.1) ∙ ap (λ o. goes_by c.ty (register_word o)) h ∙ ap (λ ty. goes_by ty (Ok (Int 0))) (int_type 1 c.ty r.0) ∙ ap (to_label m t f rest) ((bytes_eq-Decides else_to exit).0 p.1)
   where
-    goes_by : Result Word Trap → NextStep
-    goes_by found = with_found found (λ w. with_number w (λ n. to_label m t f rest (if n == 0 then else_to else then_to)))
+    goes_by : Ty → Result Word Trap → NextStep
+    goes_by ty found = with_found (and_then found (of_type ty)) (λ w. with_number w (λ n. to_label m t f rest (if n == 0 then else_to else then_to)))
 branches y user exit x _ e m t f rest h = let g : ⊥ = cc in absurd g
 
 returns : (x : Option Name) (k : Kind) → is_return_kind k ≡ true → (m : Module) (t : ThreadState) (f : Frame) → next_kind m t f [] x k ≡ Pending Leaves
@@ -172,7 +193,7 @@ entry_by_test flag user exit init test branch x (Some y) hx ho k e =
       x = x;
       y = y;
       asks = λ m t f rest. ap (λ r. next_kind m t f rest r init.kind) hx ∙ asks flag x init.kind k m t f rest;
-      tests = λ m t f rest n apart h. ap (λ r. next_kind m t f rest r test.kind) ho ∙ tests x y test.kind p.0 m t f rest n apart h;
+      tests = λ m t f rest n low h. ap (λ r. next_kind m t f rest r test.kind) ho ∙ tests x y test.kind p.0 m t f rest n low h;
       branches = λ m t f rest h. branches y user exit branch.result branch.kind b.1 m t f rest h;
       generic = λ more. ap (λ ms. is_spmd_mode ((ms ++ flat_map inst_modes (test ∷ branch ∷ [])) ++ more)) (init_modes flag init.kind k);
     }

@@ -28,7 +28,7 @@ use Rattle.mem_model.specs.declared.memory.Word.{Word}
 use Rattle.mem_model.specs.Memory.{Memory, no_blocks, with_block}
 use Rattle.mem_model.specs.Thread.{Name, Place, Registers, Answers, Frame, ThreadState, assigned, bound}
 use Rattle.ir_core.specs.Places.{block_in, inst_in, inst_at, block_name, labels_of, labels, function_name, function_place, global_place, place_in, PhiNode, with_phi, leading_phis, phis_in, phis_at, edge_from, name_in, label_at}
-use Rattle.mem_model.specs.Values.{address_of, value_word, and_then, operand_words, index_of, path_of}
+use Rattle.mem_model.specs.Values.{address_of, value_word, of_type, operand, and_then, operand_words, index_of, path_of}
 use Rattle.mem_model.specs.Next.{NextStep, Local, with_found, with_frames, goes_on, phi_word, with_phis, enters, to_block, to_label, CallsInit, CallsDeinit, CallsFunction, CallsOther, Callee, with_body, defined_as, defined_at, callee_of, called, next_call, next_kind, next_inst, next_frames, Next, result_of, resumed_frames, resumed, line_of, frames_line, line_at}
 use Rattle.mem_model.specs.Globals.{padded, Filled, found_bytes, init_layer, element_layer, contents, with_globals}
 use Rattle.mem_model.specs.Launching.{params_of, arg_words, first_registers, thread_at, first_thread, with_buffers, first_memory}
@@ -98,13 +98,16 @@ value_same m r Null = refl
 value_same m r (Register x) = refl
 value_same m r (GlobalValue x) = ap (address_of (global_place m x)) (function_place_same m x)
 
+operand_same : (m : Module) (r : Registers) (ty : Ty) (v : Value) → operand (machine_off m) r ty v ≡ operand m r ty v
+operand_same m r ty v = ap (λ found. and_then found (of_type ty)) (value_same m r v)
+
 words_same : (m : Module) (r : Registers) (vs : List Typed) → operand_words (machine_off m) r vs ≡ operand_words m r vs
 words_same m r [] = refl
 words_same m r (v ∷ vs) = λ i. and_then (value_same m r v.value i) (λ word. and_then (words_same m r vs i) (λ words. Ok (word ∷ words)))
 
 path_same : (m : Module) (r : Registers) (vs : List Typed) → path_of (machine_off m) r vs ≡ path_of m r vs
 path_same m r [] = refl
-path_same m r (v ∷ vs) = λ i. and_then (value_same m r v.value i) (λ word. and_then (index_of v.ty word) (λ n. and_then (path_same m r vs i) (λ path. Ok (n ∷ path))))
+path_same m r (v ∷ vs) = λ i. and_then (operand_same m r v.ty v.value i) (λ word. and_then (index_of v.ty word) (λ n. and_then (path_same m r vs i) (λ path. Ok (n ∷ path))))
 
 -- ---- branches
 
@@ -265,15 +268,15 @@ first_thread_same m l own answers = ap (thread_at (machine_off m) l own answers)
 
 -- ---- the mode
 
-operand_same : (operands : List Typed) → mode_operand (operands_off operands) ≡ mode_operand operands
-operand_same [] = refl
-operand_same (a ∷ []) = refl
-operand_same (a ∷ b ∷ []) = refl
-operand_same (a ∷ b ∷ c ∷ []) = refl
-operand_same (a ∷ b ∷ c ∷ d ∷ more) = refl
+mode_same : (operands : List Typed) → mode_operand (operands_off operands) ≡ mode_operand operands
+mode_same [] = refl
+mode_same (a ∷ []) = refl
+mode_same (a ∷ b ∷ []) = refl
+mode_same (a ∷ b ∷ c ∷ []) = refl
+mode_same (a ∷ b ∷ c ∷ d ∷ more) = refl
 
 call_modes_same : (init : Bool) (operands : List Typed) → (if init then mode_operand (if init then operands_off operands else operands) else []) ≡ (if init then mode_operand operands else [])
-call_modes_same true operands = operand_same operands
+call_modes_same true operands = mode_same operands
 call_modes_same false operands = refl
 
 kind_modes_same : (k : Kind) → kind_modes (kind_off k) ≡ kind_modes k

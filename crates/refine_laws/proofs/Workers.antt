@@ -1,5 +1,5 @@
 -- What a worker does in a kernel whose machine is off: it asks, tests, branches and leaves.
-use Rattle.std.proofs.Common.{◌≡◌, ◌≢◌, ℕ, zero, suc, List, [], ◌∷◌, length, cond, Some, None, refl, ap, ◌∙◌}
+use Rattle.std.proofs.Common.{◌≡◌, ◌<◌, ℕ, zero, suc, List, [], ◌∷◌, length, cond, Some, None, refl, ap, ◌∙◌}
 use Rattle.std.specs.Prelude.{slice_get}
 use Rattle.std.proofs.lemmas.Slice.Eq.{bytes_eq-Decides}
 use Rattle.ir_core.specs.declared.module.Module.{Module}
@@ -49,16 +49,16 @@ module _ (m : Module) (l : Launch) (k : ℕ) (g : Function) (there : slice_get m
   arrives n phis =
       with_found (with_phis m (tested n) (label_at m (worker_code n 2).at) phis (tested n)) (enters (worker n 2) (worker_frame n 2) [] (record { function = k; block = 2; index = length phis }))
 
-  pub worker_next : (n j : ℕ) → n ≢ minus_one → Next m (worker n j) ≡ worker_does n j
-  worker_next n zero apart = ap (λ o. next_inst m (worker n 0) (worker_frame n 0) [] (inst_in (block_in o 0) 0)) there ∙ sh.asks m (worker n 0) (worker_frame n 0) []
-  worker_next n (suc zero) apart =
+  pub worker_next : (n j : ℕ) → n < minus_one → Next m (worker n j) ≡ worker_does n j
+  worker_next n zero low = ap (λ o. next_inst m (worker n 0) (worker_frame n 0) [] (inst_in (block_in o 0) 0)) there ∙ sh.asks m (worker n 0) (worker_frame n 0) []
+  worker_next n (suc zero) low =
       ap (λ o. next_inst m (worker n 1) (worker_frame n 1) [] (inst_in (block_in o 0) 1)) there
-      ∙ sh.tests m (worker n 1) (worker_frame n 1) [] n apart (found (first_registers m k l) sh.x (Int n))
-  worker_next n (suc (suc zero)) apart =
+      ∙ sh.tests m (worker n 1) (worker_frame n 1) [] n low (found (first_registers m k l) sh.x (Int n))
+  worker_next n (suc (suc zero)) low =
       ap (λ o. next_inst m (worker n 2) (worker_frame n 2) [] (inst_in (block_in o 0) 2)) there
       ∙ sh.branches m (worker n 2) (worker_frame n 2) [] (found (asked n) sh.y (Int 0))
       ∙ ap (λ o. to_block m (worker n 2) (worker_frame n 2) [] (place_in (labels_of o) sh.exit)) there
       ∙ ap (to_block m (worker n 2) (worker_frame n 2) []) sh.exit_place
       ∙ ap (arrives n) (ap (λ o. phis_in (block_in o 2)) there ∙ sh.no_phis)
-  worker_next n (suc (suc (suc j))) apart =
+  worker_next n (suc (suc (suc j))) low =
       ap (λ o. next_inst m (worker n (suc (suc (suc j)))) (worker_frame n 3) [] (inst_in (block_in o 2) 0)) there ∙ sh.returns m (worker n (suc (suc (suc j)))) (worker_frame n 3)

@@ -29,7 +29,7 @@ get_other (u ∷ us) (suc n) (suc k) v other = get_other us n k v (λ e. other (
 
 -- ---- places
 
-abbrev Range : ℕ → ℕ → ℕ → Type 0
+abbrev pub Range : ℕ → ℕ → ℕ → Type 0
 Range at size n = (at ≤ n) × (n < at + size)
 
 range_step : (at : ℕ) (ys : List Name) (x : Name) (n : ℕ) (b : Bool) → (place_from (at + 1) ys x ≡ Some n → Range (at + 1) (length ys) n) → (if b then Some at else place_from (at + 1) ys x) ≡ Some n → Range at (suc (length ys)) n
@@ -37,7 +37,7 @@ range_step at ys x n true rest e = let is : at ≡ n = cc in (omega arith, omega
 range_step at ys x n false rest e = let r = rest e in let low = r.0 in let high = r.1 in (omega arith, omega arith)
 
 -- the place of a name is one from the first on, and below the end
-place_range : (at : ℕ) (names : List Name) (x : Name) (n : ℕ) → place_from at names x ≡ Some n → Range at (length names) n
+pub place_range : (at : ℕ) (names : List Name) (x : Name) (n : ℕ) → place_from at names x ≡ Some n → Range at (length names) n
 place_range at [] x n e = let f : ⊥ = cc in absurd f
 place_range at (y ∷ ys) x n e = range_step at ys x n (bytes_eq y x) (place_range (at + 1) ys x n) e
 
@@ -85,6 +85,7 @@ length_put values (Some n) word = length-set values n (Some word)
 pub assigns : (m : Module) (f : FrameData) (x : Option Name) (register : Option ℕ) (word : Word) → IsPlaceOf (register_names m f.function) x register → Replaces m (with_register x word) f (frame_assigned f register word)
 assigns m f x register word is = record {
   size = length_put f.registers register word;
+  room = refl;
   function = refl;
   base = refl;
   code = λ size outer. λ i. record (code_seen m outer f) { registers = registers_put (register_names m f.function) f.registers size x register word is i };
@@ -93,13 +94,14 @@ assigns m f x register word is = record {
 pub goes_behind : (m : Module) (f : FrameData) (x : Option Name) (register : Option ℕ) (word : Word) → IsPlaceOf (register_names m f.function) x register → Replaces m (λ c. code_on c x word) f (frame_past (frame_assigned f register word))
 goes_behind m f x register word is = record {
   size = length_put f.registers register word;
+  room = refl;
   function = refl;
   base = refl;
   code = λ size outer. λ i. record (code_seen m outer (frame_past f)) { registers = registers_put (register_names m f.function) f.registers size x register word is i };
 }
 
 pub passes : (m : Module) (f : FrameData) → Replaces m code_past f (frame_past f)
-passes m f = record { size = refl; function = refl; base = refl; code = λ size outer. refl }
+passes m f = record { size = refl; room = refl; function = refl; base = refl; code = λ size outer. refl }
 
 pub jumps : (m : Module) (f : FrameData) (block index : ℕ) → Replaces m (code_at block index) f (frame_at f block index)
-jumps m f block index = record { size = refl; function = refl; base = refl; code = λ size outer. refl }
+jumps m f block index = record { size = refl; room = refl; function = refl; base = refl; code = λ size outer. refl }

@@ -33,14 +33,20 @@ last_set xs n x y some is at =
 
 pub record Replaces (m : Module) (go : Code → Code) (f g : FrameData) : Type 0 where
   pub size : length g.registers ≡ length f.registers
+  pub room : length g.room ≡ length f.room
   pub function : g.function ≡ f.function
   pub base : g.base ≡ f.base
   pub code : length f.registers ≡ length (register_names m f.function) → (outer : List FrameData) → code_seen m outer g ≡ go (code_seen m outer f)
 
 module _ (m : Module) (go : Code → Code) (f g : FrameData) (r : Replaces m go f g) where
   pub are_frames : (end : ℕ) (outer : List FrameData) → AreFrames m end (f ∷ outer) → AreFrames m end (g ∷ outer)
-  are_frames end outer are =
-      (r.size ∙ are.0 ∙ ap (λ k. length (register_names m k)) (sym r.function), subst (λ b. b ≤ end) (sym r.base) are.1, subst (λ b. AreFrames m b outer) (sym r.base) are.2)
+  are_frames end outer are = (
+    r.size ∙ are.0 ∙ ap (λ k. length (register_names m k)) (sym r.function),
+    r.room ∙ are.1 ∙ ap (λ k. length (register_names m k)) (sym r.function),
+    subst (λ b. b ≤ end) (sym r.base) are.2,
+    are.3,
+    subst (λ b. AreFrames m b outer) (sym r.base) are.4,
+  )
 
   pub seen_frames : (own : ℕ) (stack : List StackBlock) (end : ℕ) (outer : List FrameData) → AreFrames m end (f ∷ outer) → frames_seen m own stack end (g ∷ outer) ≡ on_first go (frames_seen m own stack end (f ∷ outer))
   seen_frames own stack end outer are = λ i. record { code = r.code are.0 outer i; blocks = blocks_seen own stack (r.base i) end } ∷ frames_seen m own stack (r.base i) outer

@@ -57,9 +57,9 @@ module _ (m : Module) (own : ℕ) (stack : List StackBlock) (spot : Spot) where
   pub find_frames : (end : ℕ) (fs : List FrameData) → AreFrames m end fs → find_in (frames_seen m own stack end fs) spot ≡ find_block (newest end) spot
   find_frames end [] are = ap (λ n. find_block (newest n) spot) (sym are)
   find_frames end (f ∷ outer) are =
-      ap (or_else (find_block (blocks_seen own stack f.base end) spot)) (find_frames f.base outer are.2)
+      ap (or_else (find_block (blocks_seen own stack f.base end) spot)) (find_frames f.base outer are.4)
       ∙ sym (find-append (blocks_seen own stack f.base end) (newest f.base) spot)
-      ∙ ap (λ bs. find_block bs spot) (sym (newest_split f.base end are.1))
+      ∙ ap (λ bs. find_block bs spot) (sym (newest_split f.base end are.2))
 
 -- ---- found by its number
 
@@ -145,7 +145,7 @@ module _ (own n : ℕ) (bytes : List Byte) where
       let more = number_low (d.number + 1) bs i b are.1 at in
       λ j. ((own, d.number), cond (sym (not_same own n d.number (λ e. omega arith)) j) bytes d.bytes.items) ∷ put_at (d.number + 1) bs i b c are.1 at is same to j
 
-map-reverse : {X Y : Type 0} (f : X → Y) (xs : List X) → map f (reverse xs) ≡ reverse (map f xs)
+pub map-reverse : {X Y : Type 0} (f : X → Y) (xs : List X) → map f (reverse xs) ≡ reverse (map f xs)
 map-reverse f [] = refl
 map-reverse f (x ∷ xs) =
     ap (map f) (reverse-append (x ∷ []) xs) ∙ map-append f (reverse xs) (x ∷ []) ∙ ap (λ ys. ys ++ f x ∷ []) (map-reverse f xs) ∙ sym (reverse-append (f x ∷ []) (map f xs))

@@ -1,5 +1,5 @@
 -- What the state of a thread in the code means: its registers by name, and its stack blocks with the calls that made them.
-use Rattle.std.specs.Prelude.{◌≡◌, ℕ, ◌+◌, ◌-◌, ◌<◌, ◌≤◌, List, [], ◌∷◌, length, map, reverse, take, drop, slice_get, Option, Some, None}
+use Rattle.std.specs.Prelude.{◌≡◌, ℕ, ◌+◌, ◌-◌, ◌<◌, ◌≤◌, List, [], ◌∷◌, length, map, reverse, take, drop, slice_get, Option, Some, None, IsSome}
 use Rattle.ir_core.specs.declared.module.Module.{Module}
 use Rattle.ir_core.specs.Places.{Name, Place, place_in, register_names, inst_at}
 use Rattle.mem_model.specs.declared.memory.Byte.{Byte}
@@ -56,10 +56,16 @@ thread_seen m s = record { own = s.own; counter = s.counter; frames = frames_see
 
 -- ---- the states that stand for one
 
--- each call has a value or none for each register, and the blocks of the stack below it stay below
+-- a call that has called another one stands at an instruction
+abbrev pub StandsAtCall : Module → List FrameData → Type 0
+StandsAtCall m [] = Unit {0}
+StandsAtCall m (caller ∷ outer) = IsSome (inst_at m (place_seen caller))
+
+-- each call has a value or none for each register, and room for as many words; the blocks of the stack below it stay below
 abbrev pub AreFrames : Module → ℕ → List FrameData → Type 0
 AreFrames m end [] = end ≡ 0
-AreFrames m end (f ∷ outer) = (length f.registers ≡ length (register_names m f.function)) × (f.base ≤ end) × AreFrames m f.base outer
+AreFrames m end (f ∷ outer) =
+    (length f.registers ≡ length (register_names m f.function)) × (length f.room ≡ length (register_names m f.function)) × (f.base ≤ end) × StandsAtCall m outer × AreFrames m f.base outer
 
 -- the numbers of the blocks rise, and stay below how many were made
 abbrev pub AreBlocks : ℕ → List StackBlock → Type 0
@@ -68,3 +74,7 @@ AreBlocks low (b ∷ bs) = (low ≤ b.number) × AreBlocks (b.number + 1) bs
 
 abbrev pub IsThread : Module → ThreadData → Type 0
 IsThread m s = AreFrames m (length s.stack.items) (reverse s.frames.items) × AreBlocks 0 s.stack.items × ((i : ℕ) (b : StackBlock) → slice_get s.stack.items i ≡ Some b → b.number < s.counter)
+
+-- a state that stands for this one
+abbrev pub IsSeen : Module → ThreadData → ThreadState → Type 0
+IsSeen m s t = IsThread m s × (thread_seen m s ≡ t)

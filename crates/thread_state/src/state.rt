@@ -34,7 +34,7 @@ pub struct Frame {
     pub index: usize,
     /// The function's parameters and results in the order of the text, so far as they are assigned.
     pub registers: List<Option<Word>>,
-    /// Room for the words of the phis that a branch assigns at once.
+    /// Room for the words of the phis that a branch assigns at once, one for each register.
     pub room: List<Word>,
     /// How many blocks of the stack were there when it began; those above are its own, and end when it returns.
     pub base: usize,

@@ -1,6 +1,6 @@
 use Rattle.std.proofs.Common.{◌≡◌, ◌++◌, ℕ, List, arith, sym, subst, OnOk}
 use Rattle.std.proofs.lemmas.Grind.{common_steps}
-use Rattle.ir_print.proofs.Inits.{is_zero_text, is_bytes_text, is_square_text, is_braces_text}
+use Rattle.text_laws.proofs.InitTexts.{is_zero_text, is_bytes_text, is_square_text, is_braces_text}
 use Rattle.ir_print.proofs.module.+write_init.Goals as goal
 
 pub write_init-returns-in-Zero : goal.write_init-returns-in-Zero

@@ -1,6 +1,6 @@
 use Rattle.std.proofs.Common.{◌≡◌, ◌++◌, take, map, codes}
 use Rattle.ir_core.specs.Text.{all_led}
-use Rattle.ir_print.specs.Parts.{element_text}
+use Rattle.text_laws.specs.Elements.{element_text}
 use Rattle.ir_print.proofs.module.+write_init.Given as goal
 
 abbrev pub invariant-write_elements-loop-element : goal.invariant-write_elements-loop-element

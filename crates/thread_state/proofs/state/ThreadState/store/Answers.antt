@@ -8,14 +8,14 @@ use Rattle.mem_model.specs.Thread.{store_own, spliced}
 use Rattle.thread_state.proofs.Held.{holds, same_block, own_at, own_none, stored, answers_ok, answers_err}
 use Rattle.thread_state.proofs.state.ThreadState.store.Goals as goal
 
-pub returns-in_default : goal.returns-in_default
-returns-in_default c = λ m is.
+pub returns-in_default-clause-stored : goal.returns-in_default-clause-stored
+returns-in_default-clause-stored c = λ m is.
     let s = c.args.self.now in
     let none = own_none m s is c.args.number c.as_slice.result.now c.as_slice.ensures.value (c.in_default.ensures.place 0 (search rules)) in
     answers_err m s c.args.number _ NoBlock _ (ap (λ o. store_own o c.args.offset c.args.cell c.args.word) none) refl
 
-pub returns-in_err-start : goal.returns-in_err-start
-returns-in_err-start c = λ m is.
+pub returns-in_err-start-clause-stored : goal.returns-in_err-start-clause-stored
+returns-in_err-start-clause-stored c = λ m is.
     let s = c.args.self.now in
     let b = c.index.result.now in
     let h = holds s c.args.number c.in-Some.at c.as_slice.result.now c.as_slice.ensures.value (c.in-Some.ensures.place 0 (search rules)) b (search rules) (search rules) in
@@ -24,8 +24,8 @@ returns-in_err-start c = λ m is.
     (ap (λ o. store_own o c.args.offset c.args.cell c.args.word) (own_at m s is c.args.number c.in-Some.at b h) ∙ ap (spliced b.bytes.items (word_bytes c.args.cell c.args.word)) fails)
     (search rules)
 
-pub returns : goal.returns
-returns c = λ m is.
+pub returns-clause-stored : goal.returns-clause-stored
+returns-clause-stored c = λ m is.
     let s = c.args.self.now in
     let b = c.index.result.now in
     let old = c.index_mut.result.now in

@@ -1,0 +1,51 @@
+use Rattle.std.proofs.Common.{Ok, Err, sym, ap, ◌∙◌}
+use Rattle.std.proofs.lemmas.Option.{slice_get_within}
+use Rattle.mem_model.specs.Next.{Next, result_of, line_of, frames_line}
+use Rattle.team_model.specs.declared.Stand.TheVariants.{Runs}
+use Rattle.thread_state.specs.Seen.{thread_seen}
+use Rattle.interp_local.specs.Operands.{registers}
+use Rattle.interp_local.specs.Actions.{function_of, arguments}
+use Rattle.interp_local.proofs.Nexts.{at_inst, served, next_decided, plain}
+use Rattle.interp.specs.Events.{shared_seen}
+use Rattle.interp.proofs.Happens.{pending_of, no_trap, team_step}
+use Rattle.interp.proofs.events.event.Goals as goal
+
+pub unreachable-requires-in_default-decide : goal.unreachable-requires-in_default-decide
+unreachable-requires-in_default-decide c =
+    let m = c.args.m.now in
+    let s = c.args.s.now in
+    let i = c.in-Some.inst.now in
+    let is = sym c.in-Some.ensures.value in
+    no_trap (Next m (thread_seen m s)) c.in_default-decide.field-0 c.requires.pending
+    (next_decided m s (at_inst m s i is) i (Err c.in_default-decide.field-0) is (served m s i c.requires.plain is) (sym c.in_default-decide.is ∙ c.decide.ensures.value))
+
+pub happen-requires-clause-there : goal.happen-requires-clause-there
+happen-requires-clause-there c = slice_get_within c.args.sh.now.stands c.args.thread Runs c.requires.runs
+
+pub returns : goal.returns
+returns c =
+    let m = c.args.m.now in
+    let s = c.args.s.now in
+    let sh = c.args.sh.now in
+    let i = c.in-Some.inst.now in
+    let is = sym c.in-Some.ensures.value in
+    let a = at_inst m s i is in
+    let does = served m s i c.requires.plain is in
+    let p = pending_of (Next m (thread_seen m s)) c.requires.pending in
+    let decided = sym c.in-Ok.is ∙ c.decide.ensures.value in
+    let stands = a.place_is ∙ is in
+    let makes =
+    c.happen.ensures m i.result a.f a.rest (arguments i.kind) p.0
+    (record {
+      knows = record { is = c.requires.state; frames = a.frames; place = c.result_place.ensures };
+      result = sym (ap result_of stands);
+      line = sym (ap (frames_line m) a.frames ∙ ap line_of stands);
+    })
+    (next_decided m s a i (Ok c.in-Ok.action) is does decided ∙ p.1)
+    (plain m (function_of s) (registers m s) s.answers.init i.kind c.in-Ok.action does decided) in
+    record {
+      thread = makes.thread;
+      step = team_step m c.args.thread (shared_seen sh) (shared_seen c.happen.new.sh) (thread_seen m s) (thread_seen m c.happen.new.s) p.0 p.1 c.requires.goes c.requires.runs makes.shared makes.state;
+      answer_is = makes.answer_is;
+      history = makes.history ∙ c.in_ok-push.ensures.ok;
+    }

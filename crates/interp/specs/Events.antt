@@ -1,0 +1,64 @@
+-- What machine threads share as code, and what an event makes of it and of the state of its thread.
+use Rattle.std.specs.Prelude.{◌≡◌, ℕ, ◌+◌, List, [], ◌∷◌, ◌++◌, Option, Some, None, Result, Ok, Err, slice_get, slice_set}
+use Rattle.ir_core.specs.declared.module.Module.{Module}
+use Rattle.ir_core.specs.Places.{Name, inst_at}
+use Rattle.mem_model.specs.declared.step.Trap.{Trap}
+use Rattle.mem_model.specs.Thread.{Frame, ThreadState}
+use Rattle.mem_model.specs.Next.{Event, Does, Deinit, Leaves, NextStep, Pending, resumed, result_of, line_at}
+use Rattle.mem_model.specs.Do.{Effect, Do}
+use Rattle.team_model.specs.declared.Stand.TheVariants.{Ended as Gone}
+use Rattle.team_model.specs.declared.Trapping.{Trapping}
+use Rattle.team_model.specs.Team.{TeamShared, Team, slot_after_deinit, TeamStep}
+use Rattle.thread_state.specs.declared.state.ThreadState.{ThreadState as ThreadData}
+use Rattle.thread_state.specs.Seen.{thread_seen, IsThread}
+use Rattle.interp_local.specs.Steps.{Knows}
+use Rattle.interp.specs.declared.shared.TeamShared.{TeamShared as SharedData}
+use Rattle.interp.specs.declared.shared.Answer.{Answer}
+use Rattle.interp.specs.declared.shared.Answer.TheVariants.{Went, Trapped}
+use Rattle.interp.specs.declared.events.Here.{Here}
+
+-- the history is no part of what threads share in the team meaning
+abbrev pub shared_seen : SharedData → TeamShared
+shared_seen sh = record { common = record { memory = sh.memory; prints = sh.prints }; heaps = sh.heaps; stands = sh.stands; slot = sh.slot; trapped = sh.trapped }
+
+-- ---- an event of thread n
+
+abbrev pub by_effect : Module → TeamShared → ℕ → ThreadState → Result Effect Trap → TeamShared × ThreadState
+by_effect m sh n t (Err trap) = (record sh { trapped = Some (record { thread = n; line = line_at m t; trap = trap }) }, t)
+by_effect m sh n t (Ok effect) = (record sh { common = effect.common }, resumed m t effect.answer)
+
+-- what is shared and the thread behind an event
+abbrev pub made : Module → TeamShared → ℕ → ThreadState → Event → TeamShared × ThreadState
+made m sh n t (Does action) = by_effect m sh n t (Do action sh.common)
+made m sh n t Deinit = (record sh { slot = slot_after_deinit t sh.slot }, resumed m t None)
+made m sh n t Leaves = (record sh { stands = slice_set sh.stands n Gone }, t)
+
+abbrev pub IsAnswer : Option Trapping → Answer → Type 0
+IsAnswer None Went = Unit {0}
+IsAnswer (Some trapping) (Trapped trap) = trapping.trap ≡ trap
+IsAnswer _ _ = ⊥
+
+abbrev pub IsPending : NextStep → Type 0
+IsPending (Pending e) = Unit {0}
+IsPending _ = ⊥
+
+-- the state stands for one with this innermost call, and its instruction has this line and this register
+pub record IsHere (m : Module) (s : ThreadData) (x : Option Name) (here : Here) (f : Frame) (rest : List Frame) : Type 0 where
+  pub knows : Knows m s x here.register f rest
+  pub result : x ≡ result_of (inst_at m f.code.at)
+  pub line : here.line ≡ line_at m (thread_seen m s)
+
+-- an event is made, but for the history
+pub record Makes (m : Module) (n : ℕ) (sh sh' : SharedData) (s s' : ThreadData) (e : Event) (answer : Answer) : Type 0 where
+  pub thread : IsThread m s'
+  pub shared : shared_seen sh' ≡ (made m (shared_seen sh) n (thread_seen m s) e).0
+  pub state : thread_seen m s' ≡ (made m (shared_seen sh) n (thread_seen m s) e).1
+  pub answer_is : IsAnswer sh'.trapped answer
+  pub history : sh'.history ≡ sh.history
+
+-- thread n of any team with this shared part and this state of the thread makes one step, by its event
+pub record HasHappened (m : Module) (n local_steps : ℕ) (sh sh' : SharedData) (s s' : ThreadData) (answer : Answer) : Type 0 where
+  pub thread : IsThread m s'
+  pub step : (team : Team) → team.shared ≡ shared_seen sh → slice_get team.threads n ≡ Some (thread_seen m s) → TeamStep m team n ≡ Some (record { shared = shared_seen sh'; threads = slice_set team.threads n (thread_seen m s') })
+  pub answer_is : IsAnswer sh'.trapped answer
+  pub history : sh'.history ≡ sh.history ++ record { thread = n; count = local_steps + 1 } ∷ []

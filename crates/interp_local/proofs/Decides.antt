@@ -1,0 +1,156 @@
+-- The action of an instruction is its next step.
+use Rattle.std.proofs.Common.{◌≡◌, ℕ, List, [], ◌∷◌, Bool, true, false, Option, Some, None, Result, Ok, Err, refl, sym, ap, ◌∙◌}
+use Rattle.std.specs.Prelude.{slice_get, if◌then◌else◌, ◌==◌}
+use Rattle.std.specs.Str.{bytes_eq}
+use Rattle.std.proofs.lemmas.Bool.{and_parts}
+use Rattle.ir_core.specs.declared.types.Ty.{Ty}
+use Rattle.ir_core.specs.declared.types.Ty.TheVariants.{Int as IntTy, Ptr as PtrTy}
+use Rattle.ir_core.specs.declared.instructions.Value.{Value}
+use Rattle.ir_core.specs.declared.instructions.Value.TheVariants.{Int as IntValue, Null, Local as Register, Global as GlobalValue}
+use Rattle.ir_core.specs.declared.instructions.Typed.{Typed}
+use Rattle.ir_core.specs.declared.instructions.Kind.{Kind}
+use Rattle.ir_core.specs.declared.instructions.Kind.TheVariants.{Bin, ICmp, Cast, Select, Phi, Alloca, Load as LoadInst, Store as StoreInst, Rmw, Gep, Fence, Call, Br, CondBr, Switch, Ret, Unreachable as UnreachableInst}
+use Rattle.ir_core.specs.declared.module.Module.{Module}
+use Rattle.ir_core.specs.declared.module.Function.{Function}
+use Rattle.ir_core.specs.declared.module.Param.{Param}
+use Rattle.ir_core.specs.declared.module.Block.{Block}
+use Rattle.ir_core.specs.EntryPoints.{target_init, target_deinit}
+use Rattle.ir_core.specs.FirstForm.{is_scalar, is_width}
+use Rattle.ir_core.specs.Places.{Name, labels, place_in, function_place}
+use Rattle.mem_model.specs.declared.memory.Ptr.{Ptr}
+use Rattle.mem_model.specs.declared.memory.Word.{Word}
+use Rattle.mem_model.specs.declared.memory.Word.TheVariants.{Int, Ptr as Address}
+use Rattle.mem_model.specs.declared.step.Trap.{Trap}
+use Rattle.mem_model.specs.declared.step.Trap.TheVariants.{Unreachable}
+use Rattle.mem_model.specs.Eval.{Eval, compared}
+use Rattle.mem_model.specs.Thread.{Frame, ThreadState, where_is}
+use Rattle.mem_model.specs.Values.{cell_of, width_of, value_word, is_word_of, of_type, operand, and_then}
+use Rattle.mem_model.specs.Next.{NextStep, Trapped, with_found, with_number, with_pointer, with_result, loads, stores, case_for, to_block, to_label, Callee, CallsInit, CallsDeinit, CallsFunction, CallsOther, with_body, defined_as, defined_at, callee_of, next_call, next_kind}
+use Rattle.interp_local.specs.declared.actions.Action.{Action}
+use Rattle.interp_local.specs.declared.actions.Action.TheVariants.{Loads, Stores}
+use Rattle.interp_local.specs.Operands.{as_number, as_pointer, cell, or_unreachable}
+use Rattle.interp_local.specs.Actions.{gives, call_action, jump, arguments, action_of, decided}
+use Rattle.interp_local.specs.Steps.{IsServed}
+
+-- ---- a function with blocks that is called is the one at its place
+
+with_body_place : (m : Module) (n k : ℕ) (ps params : List Param) (bs : List Block) → with_body n ps bs ≡ CallsFunction k params → n ≡ k
+with_body_place m n k ps params [] e = let f : ⊥ = cc in absurd f
+with_body_place m n k ps params (b ∷ bs) e = cc
+
+defined_as_place : (m : Module) (n k : ℕ) (params : List Param) (o : Option Function) → defined_as n o ≡ CallsFunction k params → n ≡ k
+defined_as_place m n k params None e = let f : ⊥ = cc in absurd f
+defined_as_place m n k params (Some f) e = with_body_place m n k f.params params f.blocks e
+
+defined_place : (m : Module) (o : Option ℕ) (k : ℕ) (params : List Param) → defined_at m o ≡ CallsFunction k params → defined_at m (Some k) ≡ CallsFunction k params
+defined_place m None k params e = let f : ⊥ = cc in absurd f
+defined_place m (Some n) k params e = ap (λ j. defined_at m (Some j)) (sym (defined_as_place m n k params (slice_get m.functions n) e)) ∙ e
+
+callee_by : (m : Module) (init deinit : Bool) (c : Callee) (k : ℕ) (params : List Param) → (c ≡ CallsFunction k params → defined_at m (Some k) ≡ CallsFunction k params) → (if init then CallsInit else if deinit then CallsDeinit else c) ≡ CallsFunction k params → defined_at m (Some k) ≡ CallsFunction k params
+callee_by m true deinit c k params go e = let f : ⊥ = cc in absurd f
+callee_by m false true c k params go e = let f : ⊥ = cc in absurd f
+callee_by m false false c k params go e = go e
+
+callee_place : (m : Module) (v : Value) (k : ℕ) (params : List Param) → callee_of m v ≡ CallsFunction k params → defined_at m (Some k) ≡ CallsFunction k params
+callee_place m (GlobalValue x) k params e =
+    callee_by m (bytes_eq x target_init) (bytes_eq x target_deinit) (defined_at m (function_place m x)) k params (defined_place m (function_place m x) k params) e
+callee_place m (IntValue n) k params e = let f : ⊥ = cc in absurd f
+callee_place m Null k params e = let f : ⊥ = cc in absurd f
+callee_place m (Register x) k params e = let f : ⊥ = cc in absurd f
+
+-- ---- a word of a type is of a scalar
+
+is_scalar_of : (ty : Ty) (w : Word) → is_word_of ty w ≡ true → is_scalar ty ≡ true
+is_scalar_of (IntTy width) (Int n) e = (and_parts (is_width width) _ e).0
+is_scalar_of PtrTy (Address p) e = refl
+is_scalar_of (IntTy width) (Address p) e = let f : ⊥ = cc in absurd f
+is_scalar_of PtrTy (Int n) e = let f : ⊥ = cc in absurd f
+is_scalar_of _ w e = let f : ⊥ = cc in absurd f
+
+-- ---- one operand after another
+
+module _ (m : Module) (t : ThreadState) (f : Frame) (rest : List Frame) (x : Option Name) (args : List Typed) where
+  abbrev D : Result Action Trap → NextStep
+  D r = decided m t f rest x args r
+
+  abbrev G : Result Word Trap → NextStep
+  G r = D (gives r)
+
+  d_then : {A : Type 0} (r : Result A Trap) (go : A → Result Action Trap) (to : A → NextStep) → ((a : A) → D (go a) ≡ to a) → D (and_then r go) ≡ with_found r to
+  d_then (Err e) go to h = refl
+  d_then (Ok a) go to h = h a
+
+  d_number : (r : Result Word Trap) (go : ℕ → Result Action Trap) (to : ℕ → NextStep) → ((n : ℕ) → D (go n) ≡ to n) → D (and_then (and_then r as_number) go) ≡ with_found r (λ v. with_number v to)
+  d_number (Err e) go to h = refl
+  d_number (Ok (Int n)) go to h = h n
+  d_number (Ok (Address p)) go to h = refl
+
+  d_pointer : (r : Result Word Trap) (go : Ptr → Result Action Trap) (to : Ptr → NextStep) → ((p : Ptr) → D (go p) ≡ to p) → D (and_then (and_then r as_pointer) go) ≡ with_found r (λ v. with_pointer v to)
+  d_pointer (Err e) go to h = refl
+  d_pointer (Ok (Int n)) go to h = refl
+  d_pointer (Ok (Address p)) go to h = h p
+
+  g_then : {A : Type 0} (r : Result A Trap) (go : A → Result Word Trap) (to : A → NextStep) → ((a : A) → G (go a) ≡ to a) → G (and_then r go) ≡ with_found r to
+  g_then (Err e) go to h = refl
+  g_then (Ok a) go to h = h a
+
+  g_number : (r : Result Word Trap) (go : ℕ → Result Word Trap) (to : ℕ → NextStep) → ((n : ℕ) → G (go n) ≡ to n) → G (and_then (and_then r as_number) go) ≡ with_found r (λ v. with_number v to)
+  g_number (Err e) go to h = refl
+  g_number (Ok (Int n)) go to h = h n
+  g_number (Ok (Address p)) go to h = refl
+
+  g_result : {A : Type 0} (o : Option A) (go : A → Result Word Trap) (to : A → NextStep) → ((a : A) → G (go a) ≡ to a) → G (and_then (or_unreachable o) go) ≡ with_result o to
+  g_result None go to h = refl
+  g_result (Some a) go to h = h a
+
+  load_by : (b : Bool) (ty : Ty) (p : Ptr) → D (and_then (if b then Ok (cell_of ty) else Err Unreachable) (λ c. Ok (Loads p c))) ≡ (if b then loads t f rest x (cell_of ty) (where_is p) else Trapped Unreachable)
+  load_by true ty p = refl
+  load_by false ty p = refl
+
+  store_by : (ty : Ty) (w : Word) (p : Ptr) → is_scalar ty ≡ true → D (and_then (cell ty) (λ c. Ok (Stores p c w))) ≡ stores t f rest (cell_of ty) w (where_is p)
+  store_by ty w p e = ap (λ b. D (and_then (if b then Ok (cell_of ty) else Err Unreachable) (λ c. Ok (Stores p c w)))) e
+
+  typed_by : (ty : Ty) (w : Word) (b : Bool) (go : Word → Result Action Trap) (to : Word → NextStep) → is_word_of ty w ≡ b → (is_word_of ty w ≡ true → D (go w) ≡ to w) → D (and_then (if b then Ok w else Err Unreachable) go) ≡ with_found (if b then Ok w else Err Unreachable) to
+  typed_by ty w true go to e h = h e
+  typed_by ty w false go to e h = refl
+
+  d_typed : (ty : Ty) (r : Result Word Trap) (go : Word → Result Action Trap) (to : Word → NextStep) → ((w : Word) → is_word_of ty w ≡ true → D (go w) ≡ to w) → D (and_then (and_then r (of_type ty)) go) ≡ with_found (and_then r (of_type ty)) to
+  d_typed ty (Err e) go to h = refl
+  d_typed ty (Ok w) go to h = typed_by ty w (is_word_of ty w) go to refl (h w)
+
+  jump_by : (o : Option ℕ) → D (and_then (or_unreachable o) (λ b. Ok (Action.Jumps b))) ≡ to_block m t f rest o
+  jump_by None = refl
+  jump_by (Some b) = refl
+
+  jump_is : (to : Name) → D (jump m f.code.at.function to) ≡ to_label m t f rest to
+  jump_is to = jump_by (place_in (labels m f.code.at.function) to)
+
+  call_by : (c : Callee) → ((k : ℕ) (params : List Param) → c ≡ CallsFunction k params → defined_at m (Some k) ≡ CallsFunction k params) → D (call_action t.answers.init c) ≡ next_call m t f rest x args c
+  call_by CallsInit h = refl
+  call_by CallsDeinit h = refl
+  call_by CallsOther h = refl
+  call_by (CallsFunction k params) h = ap (next_call m t f rest x args) (h k params refl)
+
+pub action_is : (m : Module) (t : ThreadState) (f : Frame) (rest : List Frame) (x : Option Name) (k : Kind) → IsServed m k → decided m t f rest x (arguments k) (action_of m f.code.at.function f.code.registers t.answers.init k) ≡ next_kind m t f rest x k
+action_is m t f rest x (Bin op flags ty a b) s =
+    g_number m t f rest x [] (operand m f.code.registers ty a) _ _ (λ i. g_number m t f rest x [] (operand m f.code.registers ty b) _ _ (λ j. g_then m t f rest x [] (Eval op flags (width_of ty) i j) _ _ (λ n. refl)))
+action_is m t f rest x (ICmp pred ty a b) s =
+    g_then m t f rest x [] (operand m f.code.registers ty a) _ _ (λ v. g_then m t f rest x [] (operand m f.code.registers ty b) _ _ (λ w. g_result m t f rest x [] (compared pred (width_of ty) v w) _ _ (λ n. refl)))
+action_is m t f rest x (Select c a b) s =
+    g_number m t f rest x [] (operand m f.code.registers c.ty c.value) _ _ (λ n. g_then m t f rest x [] (operand m f.code.registers a.ty a.value) _ _ (λ v. g_then m t f rest x [] (operand m f.code.registers b.ty b.value) _ _ (λ w. refl)))
+action_is m t f rest x (LoadInst ty at order align) s = d_pointer m t f rest x [] (operand m f.code.registers at.ty at.value) _ _ (λ p. load_by m t f rest x [] (is_scalar ty) ty p)
+action_is m t f rest x (StoreInst value at order align) s =
+    d_typed m t f rest x [] value.ty (value_word m f.code.registers value.value) _ _ (λ w typed. d_pointer m t f rest x [] (operand m f.code.registers at.ty at.value) _ _ (λ p. store_by m t f rest x [] value.ty w p (is_scalar_of value.ty w typed)))
+action_is m t f rest x (Fence order) s = refl
+action_is m t f rest x (Call tail_word ret callee operands) s = call_by m t f rest x operands (callee_of m callee) (callee_place m callee)
+action_is m t f rest x (Br to) s = jump_is m t f rest x [] to
+action_is m t f rest x (CondBr c then_to else_to) s = d_number m t f rest x [] (operand m f.code.registers c.ty c.value) _ _ (λ n. jump_is m t f rest x [] (if n == 0 then else_to else then_to))
+action_is m t f rest x (Switch on other cases) s = d_number m t f rest x [] (operand m f.code.registers on.ty on.value) _ _ (λ n. jump_is m t f rest x [] (case_for n other cases))
+action_is m t f rest x (Ret None) s = refl
+action_is m t f rest x (Ret (Some v)) s = d_then m t f rest x [] (value_word m f.code.registers v.value) _ _ (λ w. refl)
+action_is m t f rest x (Phi ty edges) s = refl
+action_is m t f rest x UnreachableInst s = refl
+action_is m t f rest x (Rmw op at value order align) s = absurd s
+action_is m t f rest x (Cast op from to) s = absurd s
+action_is m t f rest x (Alloca ty align) s = absurd s
+action_is m t f rest x (Gep inbounds ty base path) s = absurd s

@@ -1,0 +1,75 @@
+-- What is told of the next step before it is made, and runs of own steps.
+use Rattle.std.proofs.Common.{◌≡◌, ℕ, ◌<◌, ◌≤◌, List, [], ◌∷◌, length, false, Option, Some, None, Result, Ok, Err, refl, sym, ap, ◌∙◌, subst, arith}
+use Rattle.ir_core.specs.declared.module.Module.{Module}
+use Rattle.mem_model.specs.declared.memory.Byte.{Byte}
+use Rattle.mem_model.specs.declared.memory.Word.{Word}
+use Rattle.mem_model.specs.declared.step.Trap.{Trap}
+use Rattle.mem_model.specs.Thread.{Frame, ThreadState}
+use Rattle.mem_model.specs.Next.{NextStep, Local, Pending, Done, Trapped, with_found, returns, Next}
+use Rattle.thread_state.specs.declared.state.ThreadState.{ThreadState as ThreadData}
+use Rattle.thread_state.specs.Seen.{thread_seen, IsThread}
+use Rattle.thread_state.specs.Stored.{only_trap}
+use Rattle.interp_local.specs.declared.steps.Own.{Own}
+use Rattle.interp_local.specs.declared.steps.Own.TheVariants.{Went, Event, Done as HasEnded}
+use Rattle.interp_local.specs.Steps.{IsOwn}
+use Rattle.interp_local.specs.declared.run.Pause.{Pause}
+use Rattle.interp_local.specs.Runs.{LocalRun, Tells, Pauses, IsRan, is_went, pause_seen}
+use Rattle.interp_local.proofs.Returned.{count_calls}
+
+-- ---- looks
+
+pub tells_event : (m : Module) (s : ThreadData) (word : Option Word) (f : Frame) (rest : List Frame) → length s.frames.items < 2 → (thread_seen m s).frames ≡ f ∷ rest → Tells (returns (thread_seen m s) rest f.code.back word) (Ok Event)
+tells_event m s word f [] few frames = tt
+tells_event m s word f (c ∷ rest) few frames = let size = sym (count_calls m s) ∙ ap length frames in absurd (omega arith)
+
+pub tells_return : (m : Module) (s : ThreadData) (word : Option Word) (f : Frame) (rest : List Frame) → 2 ≤ length s.frames.items → (thread_seen m s).frames ≡ f ∷ rest → Tells (returns (thread_seen m s) rest f.code.back word) (Ok Went)
+tells_return m s word f [] more frames = let size = sym (count_calls m s) ∙ ap length frames in absurd (omega arith)
+tells_return m s None f (c ∷ rest) more frames = tt
+tells_return m s (Some word) f (c ∷ rest) more frames = tt
+
+pub tells_trap : {A : Type 0} (r : Result A Trap) (go : A → NextStep) (e : Trap) (result : Result Own Trap) → r ≡ Err e → result ≡ Err e → Tells (with_found r go) result
+tells_trap r go e result is same = subst (λ x. Tells (with_found r go) x) (sym same) (subst (λ x. Tells (with_found x go) (Err e)) (sym is) refl)
+
+pub trap_of : (r : Result (List Byte) Trap) (e : Trap) → Err e ≡ only_trap r → r ≡ Err e
+trap_of (Err x) e is = let same : e ≡ x = cc in ap Err (sym same)
+trap_of (Ok bytes) e is = let f : ⊥ = cc in absurd f
+
+pub tells_store : (r : Result (List Byte) Trap) (go : List Byte → ThreadState) → Ok tt ≡ only_trap r → Tells (with_found r (λ bytes. Local (go bytes))) (Ok Went)
+tells_store (Err x) go is = let f : ⊥ = cc in absurd f
+tells_store (Ok bytes) go is = tt
+
+pub told_trap : (nx : NextStep) (e : Trap) (result : Result Own Trap) → Trapped e ≡ nx → result ≡ Err e → Tells nx result
+told_trap nx e result is same = subst (λ r. Tells nx r) (sym same) (subst (λ x. Tells x (Err e)) is refl)
+
+-- ---- runs
+
+-- nothing has changed where no step was made
+pub pauses : (m : Module) (old new : ThreadData) (steps limit : ℕ) (nx : NextStep) (own : Result Own Trap) → is_went own ≡ false → IsOwn m old new nx own → (new ≡ old) × Pauses steps limit nx (pause_seen own)
+pauses m old new steps limit (Local u) (Ok Went) w h = let f : ⊥ = cc in absurd f
+pauses m old new steps limit (Local u) (Ok Event) w h = absurd h
+pauses m old new steps limit (Local u) (Ok HasEnded) w h = absurd h
+pauses m old new steps limit (Local u) (Err e) w h = absurd h
+pauses m old new steps limit (Pending v) (Ok Went) w h = absurd h
+pauses m old new steps limit (Pending v) (Ok Event) w h = (h, tt)
+pauses m old new steps limit (Pending v) (Ok HasEnded) w h = absurd h
+pauses m old new steps limit (Pending v) (Err e) w h = absurd h
+pauses m old new steps limit Done (Ok Went) w h = absurd h
+pauses m old new steps limit Done (Ok Event) w h = absurd h
+pauses m old new steps limit Done (Ok HasEnded) w h = (h, tt)
+pauses m old new steps limit Done (Err e) w h = absurd h
+pauses m old new steps limit (Trapped x) (Ok o) w h = absurd (no_trap o h)
+  where
+    no_trap : (o : Own) → IsOwn m old new (Trapped x) (Ok o) → ⊥
+    no_trap Went h = h
+    no_trap Event h = h
+    no_trap HasEnded h = h
+pauses m old new steps limit (Trapped x) (Err e) w h = (h.1, h.0)
+
+pub stays : (m : Module) (first old new : ThreadData) (steps limit : ℕ) (own : Result Own Trap) (pause : Pause) → new ≡ old → IsThread m old → LocalRun m (thread_seen m first) steps (thread_seen m old) → steps ≤ limit → Pauses steps limit (Next m (thread_seen m old)) (pause_seen own) → pause ≡ pause_seen own →
+    IsRan m first new limit (record { steps = steps; pause = pause })
+stays m first old new steps limit own pause same thread run within h is = record {
+  thread = subst (IsThread m) (sym same) thread;
+  run = subst (λ s. LocalRun m (thread_seen m first) steps (thread_seen m s)) (sym same) run;
+  within = within;
+  pause = subst (λ s. Pauses steps limit (Next m (thread_seen m s)) pause) (sym same) (subst (Pauses steps limit (Next m (thread_seen m old))) (sym is) h);
+}

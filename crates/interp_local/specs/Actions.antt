@@ -1,0 +1,117 @@
+-- What an instruction does, once its operands are read.
+use Rattle.std.specs.Prelude.{◌≡◌, ℕ, ◌^◌, ◌<◌, List, [], ◌∷◌, reverse, Option, Some, None, Result, Ok, Err, true, if◌then◌else◌, ◌==◌}
+use Rattle.ir_core.specs.declared.types.Ty.{Ty}
+use Rattle.ir_core.specs.declared.instructions.Typed.{Typed}
+use Rattle.ir_core.specs.declared.instructions.Case.{Case}
+use Rattle.ir_core.specs.declared.instructions.RmwOp.{RmwOp}
+use Rattle.ir_core.specs.declared.instructions.Kind.{Kind}
+use Rattle.ir_core.specs.declared.instructions.Kind.TheVariants.{Bin, ICmp, Select, Load as LoadInst, Store as StoreInst, Rmw, Fence, Call, Br, CondBr, Switch, Ret}
+use Rattle.ir_core.specs.declared.module.Module.{Module}
+use Rattle.ir_core.specs.FirstForm.{is_width}
+use Rattle.ir_core.specs.Places.{labels, place_in}
+use Rattle.mem_model.specs.declared.memory.Word.{Word}
+use Rattle.mem_model.specs.declared.memory.Word.TheVariants.{Int}
+use Rattle.mem_model.specs.declared.step.Trap.{Trap}
+use Rattle.mem_model.specs.declared.step.Trap.TheVariants.{Unreachable}
+use Rattle.mem_model.specs.Answers.{IsCell, IsOf}
+use Rattle.mem_model.specs.Thread.{Name, Registers, Frame, ThreadState, where_is}
+use Rattle.mem_model.specs.Values.{width_of, value_word, operand, and_then}
+use Rattle.mem_model.specs.Next.{NextStep, Local, Pending, Trapped, Deinit as DeinitEvent, goes_on, goes_past, loads, stores, updates, case_for, to_block, Callee, CallsInit, CallsDeinit, CallsFunction, CallsOther, defined_at, callee_of, next_call, returns}
+use Rattle.thread_state.specs.declared.state.Frame.{Frame as FrameData}
+use Rattle.thread_state.specs.declared.state.ThreadState.{ThreadState as ThreadData}
+use Rattle.interp_local.specs.declared.actions.Action.{Action}
+use Rattle.interp_local.specs.declared.actions.Action.TheVariants.{Gives, Passes, Loads, Stores, Updates, Deinit, Calls, Jumps, Returns}
+use Rattle.interp_local.specs.Operands.{number, pointer, cell, or_unreachable, binary, comparison, selection}
+
+abbrev pub first_function : List FrameData → ℕ
+first_function [] = 0
+first_function (f ∷ outer) = f.function
+
+-- the place of the function of the innermost call
+abbrev pub function_of : ThreadData → ℕ
+function_of s = first_function (reverse s.frames.items)
+
+abbrev pub arguments : Kind → List Typed
+arguments (Call tail_word ret callee operands) = operands
+arguments _ = []
+
+-- ---- which action an instruction is
+
+abbrev pub gives : Result Word Trap → Result Action Trap
+gives found = and_then found (λ word. Ok (Gives word))
+
+abbrev pub call_action : ℕ → Callee → Result Action Trap
+call_action init CallsInit = Ok (Gives (Int init))
+call_action init CallsDeinit = Ok Deinit
+call_action init (CallsFunction k params) = Ok (Calls k)
+call_action init CallsOther = Err Unreachable
+
+-- to a block of the function at a place
+abbrev pub jump : Module → ℕ → Name → Result Action Trap
+jump m k to = and_then (or_unreachable (place_in (labels m k) to)) (λ b. Ok (Jumps b))
+
+abbrev pub load_action : Module → Registers → Ty → Typed → Result Action Trap
+load_action m r ty at = and_then (pointer m r at.ty at.value) (λ p. and_then (cell ty) (λ c. Ok (Loads p c)))
+
+abbrev pub store_action : Module → Registers → Typed → Typed → Result Action Trap
+store_action m r value at = and_then (operand m r value.ty value.value) (λ word. and_then (pointer m r at.ty at.value) (λ p. and_then (cell value.ty) (λ c. Ok (Stores p c word))))
+
+abbrev pub update_action : Module → Registers → RmwOp → Typed → Typed → Result Action Trap
+update_action m r op at value = and_then (pointer m r at.ty at.value) (λ p. and_then (number m r value.ty value.value) (λ n. Ok (Updates p (width_of value.ty) op n)))
+
+abbrev pub branch_action : Module → ℕ → Registers → Typed → Name → Name → Result Action Trap
+branch_action m k r c then_to else_to = and_then (number m r c.ty c.value) (λ n. jump m k (if n == 0 then else_to else then_to))
+
+abbrev pub switch_action : Module → ℕ → Registers → Typed → Name → List Case → Result Action Trap
+switch_action m k r on other cases = and_then (number m r on.ty on.value) (λ n. jump m k (case_for n other cases))
+
+abbrev pub return_action : Module → Registers → Option Typed → Result Action Trap
+return_action m r None = Ok (Returns None)
+return_action m r (Some v) = and_then (value_word m r v.value) (λ word. Ok (Returns (Some word)))
+
+-- by the registers of the innermost call, the place of its function, and what __kmpc_target_init answers
+abbrev pub action_of : Module → ℕ → Registers → ℕ → Kind → Result Action Trap
+action_of m k r init (Bin op flags ty a b) = gives (binary m r op flags ty a b)
+action_of m k r init (ICmp pred ty a b) = gives (comparison m r pred ty a b)
+action_of m k r init (Select c a b) = gives (selection m r c a b)
+action_of m k r init (LoadInst ty at order align) = load_action m r ty at
+action_of m k r init (StoreInst value at order align) = store_action m r value at
+action_of m k r init (Rmw op at value order align) = update_action m r op at value
+action_of m k r init (Fence order) = Ok Passes
+action_of m k r init (Call tail_word ret callee operands) = call_action init (callee_of m callee)
+action_of m k r init (Br to) = jump m k to
+action_of m k r init (CondBr c then_to else_to) = branch_action m k r c then_to else_to
+action_of m k r init (Switch on other cases) = switch_action m k r on other cases
+action_of m k r init (Ret value) = return_action m r value
+action_of m k r init _ = Err Unreachable
+
+-- an access is of a cell, and a word that is stored is of it
+abbrev pub IsAction : Action → Type 0
+IsAction (Loads at c) = IsCell c
+IsAction (Stores at c word) = IsCell c × IsOf c word
+IsAction (Updates at width op n) = (is_width width ≡ true) × (n < 2 ^ width)
+IsAction _ = Unit {0}
+
+-- no atomic change, and no call of a function with blocks
+abbrev pub IsPlain : Action → Type 0
+IsPlain (Updates at width op n) = ⊥
+IsPlain (Calls k) = ⊥
+IsPlain _ = Unit {0}
+
+-- ---- what an action is
+
+-- the step that an action is, of a thread and its innermost call, the name of the register that takes a result, and the operands of a call
+abbrev pub acted : Module → ThreadState → Frame → List Frame → Option Name → List Typed → Action → NextStep
+acted m t f rest x args (Gives word) = Local (goes_on t f rest x word)
+acted m t f rest x args Passes = Local (goes_past t f rest)
+acted m t f rest x args (Loads at cell) = loads t f rest x cell (where_is at)
+acted m t f rest x args (Stores at cell word) = stores t f rest cell word (where_is at)
+acted m t f rest x args (Updates at width op n) = updates t f rest x width op n (where_is at)
+acted m t f rest x args Deinit = Pending DeinitEvent
+acted m t f rest x args (Calls k) = next_call m t f rest x args (defined_at m (Some k))
+acted m t f rest x args (Jumps b) = to_block m t f rest (Some b)
+acted m t f rest x args (Returns word) = returns t rest f.code.back word
+
+abbrev pub decided : Module → ThreadState → Frame → List Frame → Option Name → List Typed → Result Action Trap → NextStep
+decided m t f rest x args (Ok action) = acted m t f rest x args action
+decided m t f rest x args (Err trap) = Trapped trap

@@ -1,0 +1,4 @@
+pub mod Actions
+pub mod Operands
+pub mod Steps
+pub mod Runs

@@ -1,0 +1,71 @@
+-- The step that a thread makes by itself, and what a call that makes it answers.
+use Rattle.std.specs.Prelude.{◌≡◌, ℕ, List, [], ◌∷◌, reverse, Option, Some, None, Result, Ok, Err}
+use Rattle.ir_core.specs.declared.instructions.Inst.{Inst}
+use Rattle.ir_core.specs.declared.instructions.Kind.{Kind}
+use Rattle.ir_core.specs.declared.instructions.Kind.TheVariants.{Cast, Alloca, Rmw, Gep, Call}
+use Rattle.ir_core.specs.declared.module.Module.{Module}
+use Rattle.ir_core.specs.Places.{Place, inst_at, phis_at}
+use Rattle.mem_model.specs.declared.memory.Word.{Word}
+use Rattle.mem_model.specs.declared.step.Trap.{Trap}
+use Rattle.mem_model.specs.declared.memory.Ptr.{Ptr}
+use Rattle.mem_model.specs.Thread.{Name, Frame, ThreadState, Where, InStack, Elsewhere as ElsewhereAt}
+use Rattle.mem_model.specs.Next.{NextStep, Local, Pending, Done, Trapped, goes_on, goes_past, Callee, CallsFunction, callee_of}
+use Rattle.thread_state.specs.declared.state.Frame.{Frame as FrameData}
+use Rattle.thread_state.specs.declared.state.ThreadState.{ThreadState as ThreadData}
+use Rattle.thread_state.specs.Seen.{thread_seen, place_seen, IsThread}
+use Rattle.thread_state.specs.Moves.{names_of, IsPlaceOf}
+use Rattle.interp_local.specs.declared.steps.Part.{Part}
+use Rattle.interp_local.specs.declared.steps.Part.TheVariants.{Stack, Elsewhere}
+use Rattle.interp_local.specs.declared.steps.Own.{Own}
+use Rattle.interp_local.specs.declared.steps.Own.TheVariants.{Went, Event, Done as HasEnded}
+
+-- the step was made, or nothing has changed
+abbrev pub IsOwn : Module → ThreadData → ThreadData → NextStep → Result Own Trap → Type 0
+IsOwn m old new (Local u) (Ok Went) = IsThread m new × (thread_seen m new ≡ u)
+IsOwn m old new (Pending e) (Ok Event) = new ≡ old
+IsOwn m old new Done (Ok HasEnded) = new ≡ old
+IsOwn m old new (Trapped x) (Err y) = (x ≡ y) × (new ≡ old)
+IsOwn m old new _ _ = ⊥
+
+abbrev pub first_inst : Module → List FrameData → Option Inst
+first_inst m [] = None
+first_inst m (f ∷ outer) = inst_at m (place_seen f)
+
+-- the instruction at which the innermost call stands
+abbrev pub inst_of : Module → ThreadData → Option Inst
+inst_of m s = first_inst m (reverse s.frames.items)
+
+-- where a pointer points to
+abbrev pub part_seen : Ptr → Part → Where
+part_seen at (Stack spot) = InStack (spot.thread, spot.number) spot.offset
+part_seen at Elsewhere = ElsewhereAt at
+
+-- the state stands for one with this innermost call, where the register of a name is at this place
+pub record Knows (m : Module) (s : ThreadData) (x : Option Name) (register : Option ℕ) (f : Frame) (rest : List Frame) : Type 0 where
+  pub is : IsThread m s
+  pub frames : (thread_seen m s).frames ≡ f ∷ rest
+  pub place : IsPlaceOf (names_of m s) x register
+
+-- behind a call, with its result or without one
+abbrev pub behind : ThreadState → Frame → List Frame → Option Name → Option Word → ThreadState
+behind t f rest back None = goes_past t f rest
+behind t f rest back (Some word) = goes_on t f rest back word
+
+-- ---- the instructions that are served
+
+abbrev pub IsPoint : Callee → Type 0
+IsPoint (CallsFunction k params) = ⊥
+IsPoint _ = Unit {0}
+
+abbrev pub IsServed : Module → Kind → Type 0
+IsServed m (Cast op from to) = ⊥
+IsServed m (Alloca ty align) = ⊥
+IsServed m (Rmw op at value order align) = ⊥
+IsServed m (Gep inbounds ty base path) = ⊥
+IsServed m (Call tail_word ret callee operands) = IsPoint (callee_of m callee)
+IsServed m _ = Unit {0}
+
+-- no phi, no conversion, block of a stack, atomic change or getelementptr, and no call of a function with blocks
+pub record UsesPlain (m : Module) : Type 0 where
+  pub kinds : (p : Place) (i : Inst) → inst_at m p ≡ Some i → IsServed m i.kind
+  pub phis : (k b : ℕ) → phis_at m k b ≡ []

@@ -1,0 +1,243 @@
+//! What an instruction does, once its operands are read.
+ghost use Rattle.std.specs.Prelude.{◌≡◌, ℕ, IfOk, Some, Ok, Err, ◌==◌, if◌then◌else◌};
+ghost use Rattle.ir_core.specs.EntryPoints.{target_init, target_deinit};
+ghost use Rattle.ir_core.specs.Places.{function_place};
+ghost use Rattle.mem_model.specs.Next.{defined_at, callee_of, is_case, case_for};
+ghost use Rattle.interp_local.specs.Operands.{AreFew, registers};
+ghost use Rattle.interp_local.specs.Actions.{IsAction, gives, action_of, call_action, jump, function_of, load_action, store_action, update_action, branch_action, switch_action, return_action};
+
+use crate::operands::{
+    binary, cell, comparison, number, operand, pointer, selection, value_word, width_of,
+};
+use ir_core::{Case, Kind, Name, RmwOp, Ty, Typed, Value};
+use ir_tables::Indexed;
+use mem_model::{Cell, Ptr, Trap, Word};
+use thread_state::ThreadState;
+
+/// What an instruction does.
+#[derive(Clone, Copy)]
+pub enum Action {
+    /// Goes on behind the instruction with its result.
+    Gives(Word),
+    /// Goes on behind an instruction without a result.
+    Passes,
+    Loads(Ptr, Cell),
+    Stores(Ptr, Cell, Word),
+    /// An atomic change of a number with so many bits.
+    Updates(Ptr, u32, RmwOp, u64),
+    /// Calls `__kmpc_target_deinit`.
+    Deinit,
+    /// Calls the function at this place of the module.
+    Calls(usize),
+    /// Goes to the block at this place of the function.
+    Jumps(usize),
+    Returns(Option<Word>),
+}
+
+/// The place of the function of the innermost call.
+fn function(s: &ThreadState) -> usize
+    ensures { result ≡ function_of s.now }
+{
+    match s.frames.last() {
+        None => 0,
+        Some(frame) => frame.function,
+    }
+}
+
+/// Goes to the block of a name.
+fn jump_to(m: &Indexed, s: &ThreadState, name: &Name) -> Result<Action, Trap>
+    ensures value { result ≡ jump m.now (function_of s.now) name.now }
+    ensures is { IfOk result IsAction }
+{
+    match m.block(function(s), name) {
+        Some(place) => Ok(Action::Jumps(place)),
+        None => Err(Trap::Unreachable),
+    }
+}
+
+/// Whether a case is of a number.
+fn is_case_of(number: u64, value: &Value) -> bool
+    ensures { result ≡ is_case number value.now }
+{
+    match value {
+        Value::Int(case) => number == *case,
+        _ => false,
+    }
+}
+
+/// The block of the first case of a number, or the other one.
+fn case_of<'a>(number: u64, other: &'a Name, cases: &'a [Case]) -> &'a Name
+    ensures { result.now ≡ case_for number other.now cases.now }
+{
+    for case in cases {
+        if is_case_of(number, &case.value.value) {
+            return &case.block;
+        }
+    }
+    other
+}
+
+/// Whether the function at a place has blocks.
+fn has_body(m: &Indexed, place: usize) -> bool
+    ensures { (init : ℕ) → call_action init (defined_at m.now (Some place)) ≡ (if result then Ok (Action.Calls place) else Err Trap.Unreachable) }
+{
+    match m.module().functions.get(place) {
+        None => false,
+        Some(function) => !function.blocks.is_empty(),
+    }
+}
+
+/// A call of a function that has blocks.
+fn call_defined(m: &Indexed, name: &Name) -> Result<Action, Trap>
+    ensures value { (init : ℕ) → result ≡ call_action init (defined_at m.now (function_place m.now name.now)) }
+    ensures is { IfOk result IsAction }
+{
+    let Some(place) = m.function(name) else {
+        return Err(Trap::Unreachable);
+    };
+    if has_body(m, place) {
+        Ok(Action::Calls(place))
+    } else {
+        Err(Trap::Unreachable)
+    }
+}
+
+/// A call.
+fn call(m: &Indexed, s: &ThreadState, callee: &Value) -> Result<Action, Trap>
+    ensures value { result ≡ call_action s.now.answers.init (callee_of m.now callee.now) }
+    ensures is { IfOk result IsAction }
+{
+    let Value::Global(name) = callee else {
+        return Err(Trap::Unreachable);
+    };
+    if name.as_slice() == b"__kmpc_target_init".as_slice() {
+        return Ok(Action::Gives(Word::Int(u64::from(s.answers.init))));
+    }
+    if name.as_slice() == b"__kmpc_target_deinit".as_slice() {
+        return Ok(Action::Deinit);
+    }
+    call_defined(m, name)
+}
+
+/// A load.
+fn load(m: &Indexed, s: &ThreadState, ty: &Ty, at: &Typed) -> Result<Action, Trap>
+    requires { AreFew m.now }
+    ensures value { result ≡ load_action m.now (registers m.now s.now) ty.now at.now }
+    ensures is { IfOk result IsAction }
+{
+    let at = pointer(m, s, &at.ty, &at.value)?;
+    let cell = cell(ty)?;
+    Ok(Action::Loads(at, cell))
+}
+
+/// A store.
+fn store(m: &Indexed, s: &ThreadState, value: &Typed, at: &Typed) -> Result<Action, Trap>
+    requires { AreFew m.now }
+    ensures value { result ≡ store_action m.now (registers m.now s.now) value.now at.now }
+    ensures is { IfOk result IsAction }
+{
+    let word = operand(m, s, &value.ty, &value.value)?;
+    let at = pointer(m, s, &at.ty, &at.value)?;
+    let cell = cell(&value.ty)?;
+    Ok(Action::Stores(at, cell, word))
+}
+
+/// An atomic change.
+fn update(
+    m: &Indexed,
+    s: &ThreadState,
+    op: RmwOp,
+    at: &Typed,
+    value: &Typed,
+) -> Result<Action, Trap>
+    requires { AreFew m.now }
+    ensures value { result ≡ update_action m.now (registers m.now s.now) op at.now value.now }
+    ensures is { IfOk result IsAction }
+{
+    let at = pointer(m, s, &at.ty, &at.value)?;
+    let number = number(m, s, &value.ty, &value.value)?;
+    Ok(Action::Updates(at, width_of(&value.ty), op, number))
+}
+
+/// A branch by a condition.
+fn branch(m: &Indexed, s: &ThreadState, cond: &Typed, yes: &Name, no: &Name) -> Result<Action, Trap>
+    requires { AreFew m.now }
+    ensures value { result ≡ branch_action m.now (function_of s.now) (registers m.now s.now) cond.now yes.now no.now }
+    ensures is { IfOk result IsAction }
+{
+    let chosen = number(m, s, &cond.ty, &cond.value)?;
+    jump_to(m, s, if chosen == 0 { no } else { yes })
+}
+
+/// A branch by cases.
+fn switch(
+    m: &Indexed,
+    s: &ThreadState,
+    on: &Typed,
+    other: &Name,
+    cases: &[Case],
+) -> Result<Action, Trap>
+    requires { AreFew m.now }
+    ensures value { result ≡ switch_action m.now (function_of s.now) (registers m.now s.now) on.now other.now cases.now }
+    ensures is { IfOk result IsAction }
+{
+    let number = number(m, s, &on.ty, &on.value)?;
+    jump_to(m, s, case_of(number, other, cases))
+}
+
+/// A return.
+fn return_of(m: &Indexed, s: &ThreadState, value: &Option<Typed>) -> Result<Action, Trap>
+    requires { AreFew m.now }
+    ensures value { result ≡ return_action m.now (registers m.now s.now) value.now }
+    ensures is { IfOk result IsAction }
+{
+    match value {
+        None => Ok(Action::Returns(None)),
+        Some(value) => {
+            let word = value_word(m, s, &value.value)?;
+            Ok(Action::Returns(Some(word)))
+        }
+    }
+}
+
+/// Gives the word that was found.
+fn give(found: Result<Word, Trap>) -> Result<Action, Trap>
+    ensures value { result ≡ gives found }
+    ensures is { IfOk result IsAction }
+{
+    let word = found?;
+    Ok(Action::Gives(word))
+}
+
+/// What an instruction does, once its operands are read.
+///
+/// # Errors
+///
+/// The trap of the first operand that can't be read, or of the operation.
+pub fn decide(m: &Indexed, s: &ThreadState, kind: &Kind) -> Result<Action, Trap>
+    requires { AreFew m.now }
+    ensures value { result ≡ action_of m.now (function_of s.now) (registers m.now s.now) s.now.answers.init kind.now }
+    ensures is { IfOk result IsAction }
+{
+    match kind {
+        Kind::Bin {
+            op,
+            flags,
+            ty,
+            a,
+            b,
+        } => give(binary(m, s, *op, *flags, ty, a, b)),
+        Kind::ICmp { pred, ty, a, b } => give(comparison(m, s, *pred, ty, a, b)),
+        Kind::Select { cond, a, b } => give(selection(m, s, cond, a, b)),
+        Kind::Load { ty, at, .. } => load(m, s, ty, at),
+        Kind::Store { value, at, .. } => store(m, s, value, at),
+        Kind::Rmw { op, at, value, .. } => update(m, s, *op, at, value),
+        Kind::Fence { .. } => Ok(Action::Passes),
+        Kind::Call { callee, .. } => call(m, s, callee),
+        Kind::Br { to } => jump_to(m, s, to),
+        Kind::CondBr { cond, yes, no } => branch(m, s, cond, yes, no),
+        Kind::Switch { on, other, cases } => switch(m, s, on, other, cases.as_slice()),
+        Kind::Ret { value } => return_of(m, s, value),
+        _ => Err(Trap::Unreachable),
+    }
+}

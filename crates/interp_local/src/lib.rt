@@ -1,0 +1,16 @@
+//! The steps that a thread makes by itself, as the definition of the next step has them.
+//!
+//! `operands` reads operands, `actions` tells what an instruction does, `steps` does it,
+//! and `run` makes one step after another.
+#![tactic(auto)]
+
+mod actions;
+mod first_form;
+mod operands;
+mod run;
+mod steps;
+
+pub use actions::{Action, decide};
+pub use first_form::first_form_is_plain;
+pub use run::{Pause, Ran, local_run, look};
+pub use steps::{Own, inst_at, next, result_place};

@@ -1,0 +1,178 @@
+//! A thread's own steps one after another, up to its next event.
+ghost use Rattle.std.specs.Prelude.{◌≡◌, ℕ, List, [], ◌∷◌, Option, Some, Ok, IsOkAnd};
+ghost use Rattle.ir_core.specs.declared.instructions.Typed.{Typed};
+ghost use Rattle.ir_core.specs.declared.module.Module.{Module};
+ghost use Rattle.ir_core.specs.Places.{Name, phis_at};
+ghost use Rattle.mem_model.specs.Answers.{IsCell};
+ghost use Rattle.mem_model.specs.declared.memory.Word.{Word as SpecWord};
+ghost use Rattle.mem_model.specs.Thread.{Frame, InStack, where_is};
+ghost use Rattle.mem_model.specs.Next.{Next, loads, stores, returns};
+ghost use Rattle.thread_state.specs.Seen.{thread_seen, IsThread};
+ghost use Rattle.interp_local.specs.Operands.{AreFew};
+ghost use Rattle.interp_local.specs.Actions.{IsAction, IsPlain, acted};
+ghost use Rattle.interp_local.specs.Steps.{UsesPlain};
+ghost use Rattle.interp_local.specs.Runs.{Tells, IsRan, is_went, pause_seen};
+
+use crate::actions::{Action, decide};
+use crate::steps::{Own, Part, Spot, inst_at, next, part_of};
+use ir_core::OutOfMemory;
+use ir_tables::Indexed;
+use mem_model::{Cell, Ptr, Trap};
+use thread_state::ThreadState;
+
+/// Why a run of own steps has paused.
+#[derive(Clone, Copy)]
+pub enum Pause {
+    /// The next step is an event.
+    Event,
+    /// The next step is the thread's own, and so many have been made as were allowed.
+    Limit,
+    /// The thread has ended.
+    Done,
+    /// The next step traps.
+    Trapped(Trap),
+}
+
+/// How many own steps were made, and why there are no more.
+#[derive(Clone, Copy)]
+pub struct Ran {
+    pub steps: u32,
+    pub pause: Pause,
+}
+
+/// Whether a load from a block of a stack goes.
+fn look_load_own(s: &ThreadState, spot: Spot, cell: Cell) -> Result<Own, Trap>
+    requires { IsCell cell }
+    ensures { (m : Module) (x : Option Name) (f : Frame) (rest : List Frame) → IsThread m s.now → (thread_seen m s.now).frames ≡ f ∷ rest → Tells (loads (thread_seen m s.now) f rest x cell (InStack (spot.thread, spot.number) spot.offset)) result }
+{
+    if spot.thread != s.own {
+        return Err(Trap::NoBlock);
+    }
+    let _word = s.load(spot.number, spot.offset, cell)?;
+    Ok(Own::Went)
+}
+
+/// Whether a load goes.
+fn look_load(s: &ThreadState, at: Ptr, cell: Cell) -> Result<Own, Trap>
+    requires { IsCell cell }
+    ensures { (m : Module) (x : Option Name) (f : Frame) (rest : List Frame) → IsThread m s.now → (thread_seen m s.now).frames ≡ f ∷ rest → Tells (loads (thread_seen m s.now) f rest x cell (where_is at)) result }
+{
+    match part_of(at) {
+        Part::Stack(spot) => look_load_own(s, spot, cell),
+        Part::Elsewhere => Ok(Own::Event),
+    }
+}
+
+/// Whether a store in a block of a stack goes.
+fn look_store_own(s: &ThreadState, spot: Spot, cell: Cell) -> Result<Own, Trap>
+    ensures { (m : Module) (word : SpecWord) (f : Frame) (rest : List Frame) → IsThread m s.now → (thread_seen m s.now).frames ≡ f ∷ rest → Tells (stores (thread_seen m s.now) f rest cell word (InStack (spot.thread, spot.number) spot.offset)) result }
+{
+    if spot.thread != s.own {
+        return Err(Trap::NoBlock);
+    }
+    s.reaches(spot.number, spot.offset, cell)?;
+    Ok(Own::Went)
+}
+
+/// Whether a store goes.
+fn look_store(s: &ThreadState, at: Ptr, cell: Cell) -> Result<Own, Trap>
+    ensures { (m : Module) (word : SpecWord) (f : Frame) (rest : List Frame) → IsThread m s.now → (thread_seen m s.now).frames ≡ f ∷ rest → Tells (stores (thread_seen m s.now) f rest cell word (where_is at)) result }
+{
+    match part_of(at) {
+        Part::Stack(spot) => look_store_own(s, spot, cell),
+        Part::Elsewhere => Ok(Own::Event),
+    }
+}
+
+/// Whether a return is the thread's own step.
+fn look_return(s: &ThreadState) -> Own
+    ensures { (m : Module) (word : Option SpecWord) (f : Frame) (rest : List Frame) → (thread_seen m s.now).frames ≡ f ∷ rest → Tells (returns (thread_seen m s.now) rest f.code.back word) (Ok result) }
+{
+    if s.frames.len() < 2 {
+        Own::Event
+    } else {
+        Own::Went
+    }
+}
+
+/// What an action would be.
+fn look_at(s: &ThreadState, action: Action) -> Result<Own, Trap>
+    requires action { IsAction action }
+    requires plain { IsPlain action }
+    ensures { (m : Module) (x : Option Name) (f : Frame) (rest : List Frame) (args : List Typed) → ((k b : ℕ) → phis_at m k b ≡ []) → IsThread m s.now → (thread_seen m s.now).frames ≡ f ∷ rest → Tells (acted m (thread_seen m s.now) f rest x args action) result }
+{
+    match action {
+        Action::Gives(_) | Action::Passes | Action::Jumps(_) => Ok(Own::Went),
+        Action::Loads(at, cell) => look_load(s, at, cell),
+        Action::Stores(at, cell, _) => look_store(s, at, cell),
+        Action::Deinit => Ok(Own::Event),
+        Action::Returns(_) => Ok(look_return(s)),
+        Action::Updates(..) | Action::Calls(_) => unreachable!(),
+    }
+}
+
+/// What the next step of a thread would be; nothing changes.
+///
+/// # Errors
+///
+/// The trap of the step.
+pub fn look(m: &Indexed, s: &ThreadState) -> Result<Own, Trap>
+    requires thread { IsThread m.now s.now }
+    requires few { AreFew m.now }
+    requires plain { UsesPlain m.now }
+    ensures { Tells (Next m.now (thread_seen m.now s.now)) result }
+{
+    if s.frames.is_empty() {
+        return Ok(Own::Done);
+    }
+    let Some(inst) = inst_at(m, s) else {
+        return Err(Trap::Unreachable);
+    };
+    let action = decide(m, s, &inst.kind)?;
+    look_at(s, action)
+}
+
+/// Whether a step was made.
+fn went(own: Result<Own, Trap>) -> bool
+    ensures { result ≡ is_went own }
+{
+    matches!(own, Ok(Own::Went))
+}
+
+/// Why a run pauses where its next step is this one.
+fn pause_of(own: Result<Own, Trap>) -> Pause
+    ensures { result ≡ pause_seen own }
+{
+    match own {
+        Ok(Own::Went) => Pause::Limit,
+        Ok(Own::Event) => Pause::Event,
+        Ok(Own::Done) => Pause::Done,
+        Err(trap) => Pause::Trapped(trap),
+    }
+}
+
+/// Makes own steps of a thread, `limit` of them at most, until its next step is an event or a trap, or it has ended.
+///
+/// It takes no memory: the steps that do, a call of a function with blocks and a new block of the stack, are not served yet.
+pub fn local_run(m: &Indexed, s: &mut ThreadState, limit: u32) -> Result<Ran, OutOfMemory>
+    requires thread { IsThread m.now s.old }
+    requires few { AreFew m.now }
+    requires plain { UsesPlain m.now }
+    ensures { IsOkAnd result (IsRan m.now s.old s.new limit) }
+{
+    let mut steps = 0;
+    while steps < limit {
+        let own = next(m, s);
+        if !went(own) {
+            return Ok(Ran {
+                steps,
+                pause: pause_of(own),
+            });
+        }
+        steps += 1;
+    }
+    Ok(Ran {
+        steps,
+        pause: pause_of(look(m, s)),
+    })
+}

@@ -1,0 +1,242 @@
+//! The steps that a thread makes by itself.
+ghost use Rattle.std.specs.Prelude.{◌≡◌, ℕ, IsSome, ◌+◌, ◌<◌, ◌^◌, List, [], ◌∷◌, Option, Some, Ok, IfOk, OnSome};
+ghost use Rattle.std.specs.Option.{option_copied};
+ghost use Rattle.ir_core.specs.Places.{Name, phis_at};
+ghost use Rattle.mem_model.specs.Answers.{IsCell, IsOf};
+ghost use Rattle.ir_core.specs.declared.module.Module.{Module};
+ghost use Rattle.mem_model.specs.Thread.{Frame, InStack, where_is};
+ghost use Rattle.ir_core.specs.declared.instructions.Typed.{Typed};
+ghost use Rattle.mem_model.specs.Next.{loads, stores, to_block, returns, result_of, Next};
+ghost use Rattle.interp_local.specs.Operands.{AreFew};
+ghost use Rattle.interp_local.specs.Actions.{IsAction, IsPlain, acted};
+ghost use Rattle.thread_state.specs.Seen.{thread_seen, IsThread, IsSeen};
+ghost use Rattle.thread_state.specs.Moves.{names_of, index_of, IsPlaceOf};
+ghost use Rattle.interp_local.specs.Steps.{IsOwn, Knows, inst_of, part_seen, behind, UsesPlain};
+
+use crate::actions::{Action, decide};
+use crate::operands::register;
+use ir_core::Inst;
+use ir_tables::Indexed;
+use mem_model::{BlockName, Cell, Ptr, Trap, Word};
+use thread_state::ThreadState;
+
+/// What a thread has done by itself.
+#[derive(Clone, Copy)]
+pub enum Own {
+    /// It has made a step.
+    Went,
+    /// Its next step is an event, and nothing has changed.
+    Event,
+    /// It has ended.
+    Done,
+}
+
+/// The instruction at which the innermost call stands.
+pub fn inst_at<'a>(m: &Indexed<'a>, s: &ThreadState) -> Option<&'a Inst>
+    ensures value { option_copied result ≡ inst_of m.now s.now }
+    ensures within { OnSome result (index_of s.now + 1 < 2 ^ 64) }
+{
+    let frame = s.frames.last()?;
+    let function = m.module().functions.get(frame.function)?;
+    let block = function.blocks.get(frame.block)?;
+    let inst = block.insts.get(frame.index)?;
+    let within = frame.index < block.insts.len();
+    prove!(within);
+    Some(inst)
+}
+
+/// The place of the register that takes the result of the instruction at which the innermost call stands; none where it has none.
+pub fn result_place(m: &Indexed, s: &ThreadState, inst: &Inst) -> Option<usize>
+    requires { inst_of m.now s.now ≡ Some inst.now }
+    ensures { IsPlaceOf (names_of m.now s.now) inst.now.result result }
+{
+    match &inst.result {
+        None => None,
+        Some(name) => register(m, s, name),
+    }
+}
+
+/// A place in a block of a stack: its thread, the number of the block there, and the offset in the block.
+#[derive(Clone, Copy)]
+pub(crate) struct Spot {
+    pub(crate) thread: u32,
+    pub(crate) number: u64,
+    pub(crate) offset: i64,
+}
+
+/// Where a pointer points to.
+#[derive(Clone, Copy)]
+pub(crate) enum Part {
+    Stack(Spot),
+    Elsewhere,
+}
+
+/// Where a pointer points to.
+pub(crate) fn part_of(at: Ptr) -> Part
+    ensures { part_seen at result ≡ where_is at }
+{
+    match at {
+        Ptr::At(BlockName::Stack(thread, number), offset) => Part::Stack(Spot {
+            thread,
+            number,
+            offset,
+        }),
+        Ptr::Num(_)
+        | Ptr::At(BlockName::Arg(_), _)
+        | Ptr::At(BlockName::Global(_), _)
+        | Ptr::At(BlockName::Heap(_), _)
+        | Ptr::At(BlockName::Captures, _)
+        | Ptr::At(BlockName::Code(_), _) => Part::Elsewhere,
+    }
+}
+
+/// Loads from a block of a stack.
+fn load_own(
+    s: &mut ThreadState,
+    register: Option<usize>,
+    spot: Spot,
+    cell: Cell,
+) -> Result<Own, Trap>
+    requires cell { IsCell cell }
+    requires within { index_of s.old + 1 < 2 ^ 64 }
+    ensures { (m : Module) (x : Option Name) (f : Frame) (rest : List Frame) → Knows m s.old x register f rest → IsOwn m s.old s.new (loads (thread_seen m s.old) f rest x cell (InStack (spot.thread, spot.number) spot.offset)) result }
+{
+    if spot.thread != s.own {
+        return Err(Trap::NoBlock);
+    }
+    let word = s.load(spot.number, spot.offset, cell)?;
+    s.go_on(register, word);
+    Ok(Own::Went)
+}
+
+/// Loads from where a pointer points to: by itself from a stack.
+fn load(s: &mut ThreadState, register: Option<usize>, at: Ptr, cell: Cell) -> Result<Own, Trap>
+    requires cell { IsCell cell }
+    requires within { index_of s.old + 1 < 2 ^ 64 }
+    ensures { (m : Module) (x : Option Name) (f : Frame) (rest : List Frame) → Knows m s.old x register f rest → IsOwn m s.old s.new (loads (thread_seen m s.old) f rest x cell (where_is at)) result }
+{
+    match part_of(at) {
+        Part::Stack(spot) => load_own(s, register, spot, cell),
+        Part::Elsewhere => Ok(Own::Event),
+    }
+}
+
+/// Stores in a block of a stack.
+fn store_own(s: &mut ThreadState, spot: Spot, cell: Cell, word: Word) -> Result<Own, Trap>
+    requires cell { IsCell cell }
+    requires word { IsOf cell word }
+    requires within { index_of s.old + 1 < 2 ^ 64 }
+    ensures { (m : Module) (f : Frame) (rest : List Frame) → IsThread m s.old → (thread_seen m s.old).frames ≡ f ∷ rest → IsOwn m s.old s.new (stores (thread_seen m s.old) f rest cell word (InStack (spot.thread, spot.number) spot.offset)) result }
+{
+    if spot.thread != s.own {
+        return Err(Trap::NoBlock);
+    }
+    s.store(spot.number, spot.offset, cell, word)?;
+    s.go_past();
+    Ok(Own::Went)
+}
+
+/// Stores where a pointer points to: by itself in a stack.
+fn store(s: &mut ThreadState, at: Ptr, cell: Cell, word: Word) -> Result<Own, Trap>
+    requires cell { IsCell cell }
+    requires word { IsOf cell word }
+    requires within { index_of s.old + 1 < 2 ^ 64 }
+    ensures { (m : Module) (f : Frame) (rest : List Frame) → IsThread m s.old → (thread_seen m s.old).frames ≡ f ∷ rest → IsOwn m s.old s.new (stores (thread_seen m s.old) f rest cell word (where_is at)) result }
+{
+    match part_of(at) {
+        Part::Stack(spot) => store_own(s, spot, cell, word),
+        Part::Elsewhere => Ok(Own::Event),
+    }
+}
+
+/// Goes to a block without phis.
+fn jump(s: &mut ThreadState, block: usize) -> Own
+    ensures { (m : Module) (f : Frame) (rest : List Frame) → IsThread m s.old → (thread_seen m s.old).frames ≡ f ∷ rest → phis_at m f.code.at.function block ≡ [] → IsOwn m s.old s.new (to_block m (thread_seen m s.old) f rest (Some block)) (Ok result) }
+{
+    s.jump(block, 0);
+    Own::Went
+}
+
+/// Goes on in the innermost call behind the call at which it stands, with a result or without one.
+fn go_behind(m: &Indexed, s: &mut ThreadState, word: Option<Word>)
+    requires { IsSome (inst_of m.now s.old) }
+    ensures { (f : Frame) (rest : List Frame) → IsThread m.now s.old → (thread_seen m.now s.old).frames ≡ f ∷ rest → IsSeen m.now s.new (behind (thread_seen m.now s.old) f rest (result_of (inst_of m.now s.old)) word) }
+{
+    let Some(inst) = inst_at(m, s) else {
+        unreachable!()
+    };
+    match word {
+        Some(word) => {
+            let register = result_place(m, s, inst);
+            s.go_on(register, word);
+        }
+        None => s.go_past(),
+    }
+}
+
+/// Returns from the innermost call. The return from a thread's only call is an event.
+fn return_to(m: &Indexed, s: &mut ThreadState, word: Option<Word>) -> Own
+    requires { IsThread m.now s.old }
+    ensures { (f : Frame) (rest : List Frame) → (thread_seen m.now s.old).frames ≡ f ∷ rest → IsOwn m.now s.old s.new (returns (thread_seen m.now s.old) rest f.code.back word) (Ok result) }
+{
+    if s.frames.len() < 2 {
+        return Own::Event;
+    }
+    s.leave();
+    go_behind(m, s, word);
+    Own::Went
+}
+
+/// Does what an instruction does, unless it is an event.
+fn perform(
+    m: &Indexed,
+    s: &mut ThreadState,
+    register: Option<usize>,
+    action: Action,
+) -> Result<Own, Trap>
+    requires thread { IsThread m.now s.old }
+    requires action { IsAction action }
+    requires plain { IsPlain action }
+    requires phis { (k b : ℕ) → phis_at m.now k b ≡ [] }
+    requires within { index_of s.old + 1 < 2 ^ 64 }
+    ensures { (x : Option Name) (f : Frame) (rest : List Frame) (args : List Typed) → Knows m.now s.old x register f rest → IsOwn m.now s.old s.new (acted m.now (thread_seen m.now s.old) f rest x args action) result }
+{
+    match action {
+        Action::Gives(word) => {
+            s.go_on(register, word);
+            Ok(Own::Went)
+        }
+        Action::Passes => {
+            s.go_past();
+            Ok(Own::Went)
+        }
+        Action::Loads(at, cell) => load(s, register, at, cell),
+        Action::Stores(at, cell, word) => store(s, at, cell, word),
+        Action::Deinit => Ok(Own::Event),
+        Action::Jumps(block) => Ok(jump(s, block)),
+        Action::Returns(word) => Ok(return_to(m, s, word)),
+        Action::Updates(..) | Action::Calls(_) => unreachable!(),
+    }
+}
+
+/// Makes the next step of a thread, unless it is an event or there is none.
+///
+/// # Errors
+///
+/// The trap of the step, and then nothing has changed.
+pub fn next(m: &Indexed, s: &mut ThreadState) -> Result<Own, Trap>
+    requires thread { IsThread m.now s.old }
+    requires few { AreFew m.now }
+    requires plain { UsesPlain m.now }
+    ensures { IsOwn m.now s.old s.new (Next m.now (thread_seen m.now s.old)) result }
+{
+    if s.frames.is_empty() {
+        return Ok(Own::Done);
+    }
+    let Some(inst) = inst_at(m, s) else {
+        return Err(Trap::Unreachable);
+    };
+    let action = decide(m, s, &inst.kind)?;
+    let register = result_place(m, s, inst);
+    perform(m, s, register, action)
+}
