@@ -119,6 +119,9 @@ function_word_first front x s = let u = function_word_begins s.0 front x s.1 in 
 word_at_reads : Reads function_word_at (any function_word) Closed
 word_at_reads = pick_reads function_word_ahead function_word_at_form function_word Closed function_word_reads function_word_begins KeptGroup
 
+pub function_word_shrinks : Shrinks function_word_at
+function_word_shrinks = shrinks_by _ _ Closed _ word_at_reads function_word_first
+
 -- what is no word, group, string or name of metadata begins no word behind the parameters
 pub kind_no_word : (t : Lexeme) (k : TokenKind) → t.kind ≡ k → is_word k ≡ false → is_group k ≡ false → is_text k ≡ false → is_meta k ≡ false → function_word_goes (Some t) ≡ false
 kind_no_word t k e w g x m =

@@ -5,8 +5,10 @@ pub mod Gathered
 pub mod GlobalLaws
 pub mod InitLaws
 pub mod ItemLaws
+pub mod Joined
 pub mod Modules
 pub mod Linked
+pub mod Numbers
 pub mod Only
 pub mod Otherwise
 pub mod Rests

@@ -3,5 +3,8 @@ pub mod Gathered
 pub mod Globals
 pub mod Inits
 pub mod Items
+pub mod Joined
 pub mod Linked
+pub mod Numbered
 pub mod Refused
+pub mod Seen

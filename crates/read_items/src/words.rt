@@ -1,5 +1,5 @@
 //! Words of items, some of which are kept.
-ghost use Rattle.std.specs.Prelude.{◌≡◌, [], ◌∷◌, Some, None, false, Bool, Option, List as Listed, ℕ, IfOk};
+ghost use Rattle.std.specs.Prelude.{◌≡◌, [], ◌∷◌, drop, Some, None, false, Bool, Option, List as Listed, ℕ, IfOk};
 ghost use Rattle.ir_core.specs.Tokens.{Lexeme};
 ghost use Rattle.ir_core.specs.Language.{item_words};
 ghost use Rattle.read_forms.specs.Read.{Read, Gives, Shrinks, head, one_at, look_up, all_for};
@@ -54,7 +54,27 @@ pub(crate) fn one_name(alloc: Global, bytes: &[u8]) -> Result<List<Name>, AllocE
     Ok(names)
 }
 
-/// A word of linkage, of visibility and the like.
+/// A word that stands behind the linkage.
+fn style_word(word: &[u8]) -> Option<()>
+    ensures { result ≡ look_up (all_for (tt {0}) (drop 10 item_words)) word.now }
+{
+    if word == b"default".as_slice()
+        || word == b"hidden".as_slice()
+        || word == b"protected".as_slice()
+        || word == b"dso_local".as_slice()
+        || word == b"dso_preemptable".as_slice()
+        || word == b"local_unnamed_addr".as_slice()
+        || word == b"unnamed_addr".as_slice()
+        || word == b"ptx_kernel".as_slice()
+        || word == b"amdgpu_kernel".as_slice()
+    {
+        Some(())
+    } else {
+        None
+    }
+}
+
+/// A word of linkage, or one that stands behind it.
 fn item_word(word: &[u8]) -> Option<()>
     ensures { result ≡ look_up (all_for (tt {0}) item_words) word.now }
 {
@@ -68,19 +88,10 @@ fn item_word(word: &[u8]) -> Option<()>
         || word == b"common".as_slice()
         || word == b"appending".as_slice()
         || word == b"external".as_slice()
-        || word == b"default".as_slice()
-        || word == b"hidden".as_slice()
-        || word == b"protected".as_slice()
-        || word == b"dso_local".as_slice()
-        || word == b"dso_preemptable".as_slice()
-        || word == b"local_unnamed_addr".as_slice()
-        || word == b"unnamed_addr".as_slice()
-        || word == b"ptx_kernel".as_slice()
-        || word == b"amdgpu_kernel".as_slice()
     {
         Some(())
     } else {
-        None
+        style_word(word)
     }
 }
 

@@ -4,7 +4,7 @@ use Rattle.read_items.specs.Gathered.{gathered_at}
 use Rattle.read_items.proofs.words.gather.Given as goal
 
 abbrev pub invariant-loop-alloc : goal.invariant-loop-alloc
-invariant-loop-alloc g l = gathered_at g.T.goes g.T.reading l.fn.ahead ≡ put_all l.out (gathered_at g.T.goes g.T.reading l.rest)
+invariant-loop-alloc g l = gathered_at g.T.Words.goes g.T.Words.reading l.fn.ahead ≡ put_all l.out (gathered_at g.T.Words.goes g.T.Words.reading l.rest)
 
 abbrev pub decreases-loop-alloc : goal.decreases-loop-alloc
 decreases-loop-alloc g l = length l.rest
