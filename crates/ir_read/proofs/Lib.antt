@@ -4,3 +4,4 @@ pub mod Ends
 pub mod Least
 pub mod Split
 pub mod Tried
+pub mod Texts

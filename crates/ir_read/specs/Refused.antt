@@ -1,17 +1,9 @@
--- Which tokens are refused.
+-- Why reading gives no module.
 use Rattle.std.specs.Prelude.{ℕ, List}
 use Rattle.ir_core.specs.declared.answers.Or.{Or}
 use Rattle.ir_core.specs.declared.answers.Or.TheVariants.{Refused, Memory}
-use Rattle.ir_core.specs.Tokens.{Lexeme}
-use Rattle.ir_core.specs.Spell.{IsFirstRefused}
-use Rattle.ir_core.specs.Language.{module_to_end}
 use Rattle.ir_core.specs.TextRefusals.{IsTextRefusal}
 use Rattle.ir_core.specs.declared.refusal.Refusal.{Refusal}
-
--- the first token with which no text goes on, unless memory ran out
-abbrev pub IsTokenRefusal : List Lexeme → Or ℕ → Type 0
-IsTokenRefusal ts (Refused left) = IsFirstRefused module_to_end ts left
-IsTokenRefusal ts Memory = Unit {0}
 
 -- why reading has given no module: the text is refused, or memory ran out
 abbrev pub IsReadRefusal : List ℕ → Or Refusal → Type 0

@@ -5,4 +5,4 @@ mod fits;
 mod module;
 mod stopped;
 
-pub use module::read_module;
+pub use module::{one_module, read_module};

@@ -1,25 +1,18 @@
 //! Modules, and the refusals of texts that spell none.
 ghost use Rattle.std.specs.Prelude.{◌≡◌, ◌≤◌, ◌<◌, ◌-◌, ◌^◌, IfOk, IfErr, length, take, drop, List as Listed, ℕ};
-ghost use Rattle.ir_core.specs.Language.{Reads, module_to_end};
+ghost use Rattle.ir_core.specs.Language.{Reads};
 ghost use Rattle.ir_core.specs.Tokens.{lexemes};
 ghost use Rattle.ir_core.specs.TextRefusals.{IsRefusalAt, last_line};
 ghost use Rattle.ir_lex.specs.Seen.{tokens_seen};
 ghost use Rattle.ir_read.specs.Probes.{AreWithin};
-ghost use Rattle.ir_read.specs.Refused.{IsTokenRefusal, IsReadRefusal};
+ghost use Rattle.ir_read.specs.Refused.{IsReadRefusal};
 
 use crate::stopped::Stopped;
 use ir_core::{Construct, Module, Or, OutOfMemory, Refusal};
 use ir_lex::{Token, lex, line_ends, looked_at};
 use read_forms::Ahead;
+use read_items::read_tokens;
 use std::alloc::Global;
-
-/// The module that the tokens spell; else how many tokens are left from the first one on with which no text goes on.
-pub(crate) fn read_tokens(alloc: Global, ahead: Ahead) -> Result<Module, Or<usize>>
-    ensures found { IfOk result (λ m. module_to_end ahead.entry m) }
-    ensures refused { IfErr result (λ e. IsTokenRefusal ahead.entry e) }
-{
-    Err(Or::Memory)
-}
 
 /// The line of a text's last byte, or 1.
 fn last_line(text: &[u8]) -> u32
@@ -79,3 +72,8 @@ pub fn read_module(alloc: Global, text: &[u8]) -> Result<Module, Or<Refusal>>
         Err(Or::Memory) => Err(Or::Memory),
     }
 }
+
+/// No bytes spell two modules.
+pub fn one_module()
+    ensures { (text : Listed ℕ) (a b : Module) → Reads text a → Reads text b → a ≡ b }
+{}

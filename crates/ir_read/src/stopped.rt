@@ -6,7 +6,7 @@ ghost use Rattle.ir_core.specs.TextRefusals.{Begins, TypeStands, InitStands, Val
 ghost use Rattle.ir_lex.specs.Seen.{kind_seen, token_seen, tokens_seen};
 ghost use Rattle.ir_read.specs.Probes.{probe_bytes, probe_seen, Tells, AreWithin};
 
-use crate::module::read_tokens;
+use read_items::read_tokens;
 use ir_core::{List, Or, OutOfMemory};
 use ir_lex::{Token, TokenKind};
 use read_forms::{Ahead, Lexeme};

@@ -3,7 +3,7 @@ use Rattle.ir_core.specs.Tokens.{lexemes}
 use Rattle.ir_lex.specs.declared.token.Token.{Token}
 use Rattle.ir_lex.specs.Seen.{tokens_seen}
 use Rattle.ir_read.specs.Probes.{AreWithin}
-use Rattle.ir_read.specs.Refused.{IsTokenRefusal}
+use Rattle.read_items.specs.Refused.{IsTokenRefusal}
 use Rattle.ir_read.proofs.Ends.{ends_within}
 use Rattle.ir_read.proofs.Split.{text_refusal}
 use Rattle.ir_read.proofs.module.read_module.Goals as goal
