@@ -1,30 +1,30 @@
 -- Replies, and what is written of them.
-use Rattle.std.proofs.Common.{◌≡◌, ◌⊎◌, ℕ, ◌<◌, List, [], Option, Some, None, Result, Ok, Err, IfOk, IfErr, refl, sym, subst, arith, inl, inr, codes}
+use Rattle.std.proofs.Common.{◌≡◌, ◌⊎◌, ℕ, ◌<◌, List, [], ◌++◌, Option, Some, None, Result, Ok, Err, IfOk, IfErr, refl, sym, subst, arith, inl, inr, codes}
 use Rattle.std.proofs.lemmas.List.{append-nil}
 use Rattle.ir_core.specs.declared.module.Module.{Module}
 use Rattle.ir_core.specs.declared.answers.Or.{Or}
 use Rattle.ir_core.specs.declared.answers.Or.TheVariants.{Refused, Memory}
 use Rattle.ir_core.specs.declared.answers.OutOfMemory.{OutOfMemory}
 use Rattle.ir_core.specs.declared.refusal.Refusal.{Refusal}
-use Rattle.ir_core.specs.Grammar.{Reads}
+use Rattle.ir_core.specs.Language.{Reads}
 use Rattle.ir_core.specs.FirstForm.{HasFirstForm}
-use Rattle.ir_core.specs.Refusals.{IsReadRefusal}
 use Rattle.ir_core.specs.Text.{Text}
 use Rattle.ir_core.specs.MachineOff.{machine_off, Remarks}
-use Rattle.ir_core.specs.Notes.{remarks_text}
+use Rattle.ir_core.specs.Notes.{refusal_text, remarks_text}
 use Rattle.refine_laws.proofs.Refining.{machine_off_refines}
-use Rattle.ir_read.proofs.Texts.{one_text}
+use Rattle.ir_read.specs.Refused.{IsReadRefusal}
+use Rattle.ir_read.proofs.Texts.{one_text, text_refused}
 use Rattle.ir_check.specs.Refusal.{IsCheckRefusal}
 use Rattle.opt_core.specs.declared.reply.Reply.{Reply}
 use Rattle.opt_core.specs.Outside.{Grows, GrowsByFront}
 use Rattle.opt_core.specs.Answer.{Accepts, IsNotAccepted, IsTextReply, IsFailure, HasRisen, IsWritten}
 
 pub not_read : (text : List ℕ) (e : Or Refusal) → IsReadRefusal text e → IsNotAccepted text e
-not_read text (Refused r) (same, none) = (same, λ m accepts. none m accepts.0)
+not_read text (Refused r) h = (inl h, λ m accepts. text_refused text r h m accepts.0)
 not_read text Memory h = tt
 
 not_checked : (text : List ℕ) (m : Module) (e : Or Refusal) → Reads text m → IsCheckRefusal m e → IsNotAccepted text e
-not_checked text m (Refused r) reads (same, none) = (same, λ n accepts. none (subst HasFirstForm (one_text text n m accepts.0 reads) accepts.1))
+not_checked text m (Refused r) reads (same, none) = (inr (m, reads, none, same), λ n accepts. none (subst HasFirstForm (one_text text n m accepts.0 reads) accepts.1))
 not_checked text m Memory reads h = tt
 
 pub check_failed : {T : Type 0} (text : List ℕ) (m : Module) (result : Result T (Or Refusal)) → Reads text m → IfErr result (λ e. IsCheckRefusal m e) → IfErr result (λ e. IsNotAccepted text e)
@@ -34,6 +34,10 @@ check_failed text m (Err e) reads h = not_checked text m e reads h
 pub is_optimised : (text : List ℕ) (m : Module) (result : Result Reply OutOfMemory) → Accepts text m → IfOk result (λ r. (r.status ≡ 0) × (r.out ≡ Text (machine_off m)) × (r.notes ≡ remarks_text (Remarks m))) → IfOk result (λ r. IsTextReply text r.status r.out r.notes)
 is_optimised text m (Ok r) accepts h = inl (m, accepts, λ l fits. machine_off_refines m l accepts.1 fits, h.0, h.1, h.2)
 is_optimised text m (Err e) accepts h = tt
+
+pub is_refused : (text : List ℕ) (r : Refusal) (result : Result Reply OutOfMemory) → IsNotAccepted text (Refused r) → IfOk result (λ x. (x.status ≡ 3) × (x.out ≡ []) × (x.notes ≡ refusal_text r ++ codes "\n")) → IfOk result (λ x. IsTextReply text x.status x.out x.notes)
+is_refused text r (Ok x) refused h = inr (r, refused.0, refused.1, h.0, h.1, h.2)
+is_refused text r (Err e) refused h = tt
 
 -- ---- what is written
 

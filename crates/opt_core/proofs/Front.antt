@@ -4,9 +4,12 @@ use Rattle.std.proofs.lemmas.List.{take-take}
 use Rattle.std.proofs.lemmas.Bool.{lt-ltb, le-ltb, cases_lt}
 use Rattle.ir_core.specs.declared.module.Module.{Module}
 use Rattle.ir_core.specs.Tokens.{Token, Past, text_start, Pieces, tokens_from, text_limit, has_bad, past_limit, with_past, line_ends, Lexes, lexemes}
-use Rattle.ir_core.specs.Grammar.{functions_to_end, Reads}
+use Rattle.ir_core.specs.declared.refusal.Refusal.{Refusal}
+use Rattle.ir_core.specs.Spell.{IsFirstRefused}
+use Rattle.ir_core.specs.Language.{module_to_end, Reads}
+use Rattle.ir_core.specs.TextRefusals.{IsTextRefusal, IsRefusalAt}
 use Rattle.opt_core.specs.Outside.{read_limit}
-use Rattle.opt_core.specs.Answer.{Accepts, IsTextReply, IsFileReply}
+use Rattle.opt_core.specs.Answer.{Accepts, IsRefusal, IsTextReply, IsFileReply}
 
 limits : read_limit ≡ text_limit + 1
 unfolding read_limit text_limit
@@ -30,7 +33,16 @@ lexes_same a b ts e (ps, pieces, same) = (
 )
 
 reads_same : (a b : List ℕ) (m : Module) → Alike a b → Reads a m → Reads b m
-reads_same a b m e (ts, lexed, spelled) = (ts, lexes_same a b ts e lexed, subst (λ t. functions_to_end (lexemes t ts) m) e.fronts spelled)
+reads_same a b m e (ts, lexed, spelled) = (ts, lexes_same a b ts e lexed, subst (λ t. module_to_end (lexemes t ts) m) e.fronts spelled)
+
+text_refusal_same : (a b : List ℕ) (r : Refusal) → Alike a b → IsTextRefusal a r → IsTextRefusal b r
+text_refusal_same a b r e h =
+    let p = subst (λ (l : List ℕ). (first : IsFirstRefused module_to_end (lexemes l h.tokens) h.left) × IsRefusalAt l first.front first.rest r) e.fronts (h.first, h.told) in
+    record { tokens = h.tokens; lexes = lexes_same a b h.tokens e h.lexes; left = h.left; first = p.0; told = p.1 }
+
+refusal_same : (a b : List ℕ) (r : Refusal) → Alike a b → IsRefusal a r → IsRefusal b r
+refusal_same a b r e (inl h) = inl (text_refusal_same a b r e h)
+refusal_same a b r e (inr (m, reads, none, same)) = inr (m, reads_same a b m e reads, none, same)
 
 turned : (a b : List ℕ) → Alike a b → Alike b a
 turned a b e = record { fronts = sym e.fronts; longer = sym e.longer }
@@ -56,7 +68,7 @@ accepts_whole text m (reads, form) = (reads_same (take read_limit text) text m (
 
 pub reply_whole : (text : List ℕ) (status : ℕ) (out notes : List ℕ) → IsTextReply (take read_limit text) status out notes → IsTextReply text status out notes
 reply_whole text status out notes (inl (m, accepts, refines, s, o, n)) = inl (m, accepts_whole text m accepts, refines, s, o, n)
-reply_whole text status out notes (inr (none, s, o, n)) = inr ((λ m accepts. none m (accepts_front text m accepts)), s, o, n)
+reply_whole text status out notes (inr (r, refusal, none, s, o, n)) = inr (r, refusal_same (take read_limit text) text r (alike text) refusal, (λ m accepts. none m (accepts_front text m accepts)), s, o, n)
 
 -- what is replied to the bytes read is the reply to the file
 pub file_reply : (held : Option (List ℕ)) (bytes : List ℕ) (status : ℕ) (out notes : List ℕ) → IfSome held (λ content. bytes ≡ take read_limit content) → IsTextReply bytes status out notes → IsFileReply held status out notes

@@ -7,7 +7,8 @@ use Rattle.ir_core.specs.declared.module.Module.{Module}
 use Rattle.ir_core.specs.declared.answers.Or.{Or}
 use Rattle.ir_core.specs.declared.answers.Or.TheVariants.{Refused, Memory}
 use Rattle.ir_core.specs.declared.refusal.Refusal.{Refusal}
-use Rattle.ir_core.specs.Grammar.{Reads}
+use Rattle.ir_core.specs.Language.{Reads}
+use Rattle.ir_core.specs.TextRefusals.{IsTextRefusal}
 use Rattle.ir_core.specs.FirstForm.{HasFirstForm}
 use Rattle.ir_core.specs.MachineOff.{machine_off, Remarks}
 use Rattle.ir_core.specs.Text.{Text}
@@ -41,9 +42,13 @@ IsOutOfMemory status out notes = (status ≡ 7) × (out ≡ []) × (notes ≡ co
 abbrev pub Accepts : List ℕ → Module → Type 0
 Accepts text m = Reads text m × HasFirstForm m
 
+-- why a text is refused: no text of the grammar begins so, or its module hasn't the form that is taken by now
+abbrev pub IsRefusal : List ℕ → Refusal → Type 0
+IsRefusal text r = IsTextRefusal text r ⊎ ((m : Module) × Reads text m × (HasFirstForm m → ⊥) × (r ≡ not_built))
+
 -- the text spells no module that is taken, or memory ran out
 abbrev pub IsNotAccepted : List ℕ → Or Refusal → Type 0
-IsNotAccepted text (Refused r) = (r ≡ not_built) × ((m : Module) → Accepts text m → ⊥)
+IsNotAccepted text (Refused r) = IsRefusal text r × ((m : Module) → Accepts text m → ⊥)
 IsNotAccepted text Memory = Unit {0}
 
 -- the module with its machine off, which refines the module as read, and the remark on it
@@ -51,7 +56,7 @@ abbrev pub IsOptimised : List ℕ → ℕ → List ℕ → List ℕ → Type 0
 IsOptimised text status out notes = (m : Module) × Accepts text m × RefinesSource m (machine_off m) × (status ≡ 0) × (out ≡ Text (machine_off m)) × (notes ≡ remarks_text (Remarks m))
 
 abbrev pub IsRefused : List ℕ → ℕ → List ℕ → List ℕ → Type 0
-IsRefused text status out notes = ((m : Module) → Accepts text m → ⊥) × (status ≡ 3) × (out ≡ []) × (notes ≡ refusal_text not_built ++ codes "\n")
+IsRefused text status out notes = (r : Refusal) × IsRefusal text r × ((m : Module) → Accepts text m → ⊥) × (status ≡ 3) × (out ≡ []) × (notes ≡ refusal_text r ++ codes "\n")
 
 abbrev pub IsTextReply : List ℕ → ℕ → List ℕ → List ℕ → Type 0
 IsTextReply text status out notes = IsOptimised text status out notes ⊎ IsRefused text status out notes
