@@ -1,0 +1,2 @@
+pub mod LesserLaws
+pub mod KeptLaws
