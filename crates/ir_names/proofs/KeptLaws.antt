@@ -9,10 +9,10 @@ use Rattle.ir_core.specs.declared.types.Ty.TheVariants.{Int, Ptr, Struct, rolls-
 use Rattle.ir_core.specs.declared.module.Module.{Module}
 use Rattle.ir_core.specs.FirstForm.{same_scalar}
 use Rattle.ir_core.specs.Given.{names_in, named_in_layer, type_given, Local as LocalGiven, Register as RegisterGiven, Label as LabelGiven}
-use Rattle.ir_core.specs.Typing.{as_register, as_target, expects, is_given, in_type}
+use Rattle.ir_core.specs.Typing.{as_register, calls_local, as_target, expects, is_given, in_type}
 use Rattle.name_tables.specs.Kept.{scalar_of, is_of, local_kept}
 use Rattle.ir_names.specs.Least.{least_of}
-use Rattle.ir_names.specs.Operands.{as_kept, kept_target}
+use Rattle.ir_names.specs.Operands.{as_kept, kept_target, kept_callee}
 
 eq_turned : (a b : ℕ) → (a == b) ≡ (b == a)
 eq_turned a b = grind (arith, nat_tests)
@@ -65,3 +65,8 @@ struct_type m ty fields is =
     sym (in_fields m fields)
     ∙ ap (flat_map (λ x. is_given (type_given m.types x))) (sym (struct_names fields))
     ∙ ap (in_type m) (sym is)
+
+pub least_callee : (o : Option LocalGiven) → least_of (kept_callee (option_map local_kept o)) ≡ least_of (calls_local o)
+least_callee None = refl
+least_callee (Some (RegisterGiven given)) = refl
+least_callee (Some (LabelGiven place)) = refl

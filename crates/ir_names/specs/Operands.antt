@@ -2,7 +2,7 @@
 use Rattle.std.specs.Prelude.{List, [], ◌∷◌, Option, Some, None, not, ◌==◌}
 use Rattle.ir_core.specs.declared.types.Ty.{Ty}
 use Rattle.ir_core.specs.declared.refusal.Construct.{Construct}
-use Rattle.ir_core.specs.declared.refusal.Construct.TheVariants.{MissingName, TypeMismatch}
+use Rattle.ir_core.specs.declared.refusal.Construct.TheVariants.{MissingName, TypeMismatch, IndirectCall}
 use Rattle.ir_core.specs.Typing.{expects}
 use Rattle.name_tables.specs.declared.locals.Local.{Local}
 use Rattle.name_tables.specs.declared.locals.Local.TheVariants.{Register, Label}
@@ -17,3 +17,8 @@ abbrev pub kept_target : Option Local → List Construct
 kept_target None = MissingName ∷ []
 kept_target (Some (Register scalar)) = TypeMismatch ∷ []
 kept_target (Some (Label place)) = expects (not (place == 0))
+
+abbrev pub kept_callee : Option Local → List Construct
+kept_callee None = MissingName ∷ IndirectCall ∷ []
+kept_callee (Some (Register scalar)) = IndirectCall ∷ []
+kept_callee (Some (Label place)) = TypeMismatch ∷ IndirectCall ∷ []

@@ -6,7 +6,7 @@ ghost use Rattle.ir_names.specs.Least.{or_lesser, least_of};
 
 use ir_core::Construct;
 
-fn number(construct: Construct) -> u8
+pub(crate) fn number(construct: Construct) -> u8
     ensures { result ≡ construct_number construct }
 {
     match construct {
