@@ -6,11 +6,12 @@ use Rattle.ir_core.specs.declared.types.Ty.{Ty, fold-roll-Ty}
 use Rattle.ir_core.specs.declared.types.Ty.TheOpen.{Ty-F}
 use Rattle.ir_core.specs.Places.{Name}
 use Rattle.ir_core.specs.declared.types.Ty.TheVariants.{Int, Ptr, Struct, rolls-Struct}
+use Rattle.ir_core.specs.declared.instructions.Kind.{Kind}
 use Rattle.ir_core.specs.declared.module.Module.{Module}
-use Rattle.ir_core.specs.FirstForm.{same_scalar}
-use Rattle.ir_core.specs.Given.{names_in, named_in_layer, type_given, Local as LocalGiven, Register as RegisterGiven, Label as LabelGiven}
+use Rattle.ir_core.specs.FirstForm.{same_scalar, is_scalar}
+use Rattle.ir_core.specs.Given.{result_type, names_in, named_in_layer, type_given, Local as LocalGiven, Register as RegisterGiven, Label as LabelGiven}
 use Rattle.ir_core.specs.Typing.{as_register, calls_local, as_target, expects, is_given, in_type}
-use Rattle.name_tables.specs.Kept.{scalar_of, is_of, local_kept}
+use Rattle.name_tables.specs.Kept.{scalar_of, is_of, is_register_type, local_kept}
 use Rattle.ir_names.specs.Least.{least_of}
 use Rattle.ir_names.specs.Operands.{as_kept, kept_target, kept_callee}
 
@@ -30,6 +31,14 @@ is_of_scalar Ptr _ = refl
 is_of_scalar _ (Int g) = refl
 is_of_scalar _ Ptr = refl
 is_of_scalar _ _ = refl
+
+pub register_type : (ty : Ty) → is_register_type (scalar_of ty) ≡ is_scalar ty
+register_type (Int width) = refl
+register_type Ptr = refl
+register_type _ = refl
+
+pub least_result : (kind : Kind) → least_of (expects (is_register_type (scalar_of (result_type kind)))) ≡ least_of (expects (is_scalar (result_type kind)))
+least_result kind = ap (λ b. least_of (expects b)) (register_type (result_type kind))
 
 pub register_same : (ty : Ty) (o : Option LocalGiven) → as_kept ty (option_map local_kept o) ≡ as_register ty o
 register_same ty None = refl

@@ -7,6 +7,7 @@ mod instructions;
 mod least;
 mod operands;
 mod refusals;
+mod results;
 
 pub use addresses::address;
 pub use calls::{call, each_operand};
@@ -17,3 +18,4 @@ pub use instructions::{
 pub use least::{expects, lesser};
 pub use operands::{in_type, operand, operand_in, pointer, target, value_in};
 pub use refusals::{first, refused_at};
+pub use results::{in_order, in_result, is_phi};

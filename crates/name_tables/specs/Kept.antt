@@ -1,11 +1,11 @@
 -- What is kept of the names of a function: of a register its type, where that is a scalar type.
-use Rattle.std.specs.Prelude.{ℕ, List, ◌∷◌, map, Bool, false, Option, Some, None}
+use Rattle.std.specs.Prelude.{ℕ, List, ◌∷◌, map, Bool, true, false, Option, Some, None}
 use Rattle.std.specs.List.{flat_map}
 use Rattle.std.specs.Borrow.{Bor}
 use Rattle.ir_core.specs.declared.types.Ty.{Ty}
 use Rattle.ir_core.specs.declared.types.Ty.TheVariants.{Int as IntTy, Ptr as PtrTy}
 use Rattle.ir_core.specs.declared.module.Block.{Block}
-use Rattle.ir_core.specs.FirstForm.{is_int_of, is_ptr}
+use Rattle.ir_core.specs.FirstForm.{is_width, is_int_of, is_ptr}
 use Rattle.ir_core.specs.Given.{Local as LocalGiven, Register as RegisterGiven, Label as LabelGiven, LocalName, inst_names}
 use Rattle.name_tables.specs.declared.scalars.Scalar.{Scalar}
 use Rattle.name_tables.specs.declared.scalars.Scalar.TheVariants.{Int, Ptr}
@@ -21,6 +21,11 @@ abbrev pub is_of : Option Scalar → Ty → Bool
 is_of (Some (Int width)) ty = is_int_of width ty
 is_of (Some Ptr) ty = is_ptr ty
 is_of None ty = false
+
+abbrev pub is_register_type : Option Scalar → Bool
+is_register_type (Some (Int width)) = is_width width
+is_register_type (Some Ptr) = true
+is_register_type None = false
 
 abbrev pub local_kept : LocalGiven → Local
 local_kept (RegisterGiven ty) = Register (scalar_of ty)

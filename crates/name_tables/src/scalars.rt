@@ -2,7 +2,7 @@
 ghost use Rattle.std.specs.Prelude.{◌≡◌};
 ghost use Rattle.ir_core.specs.FirstForm.{is_width, is_scalar, is_int_of, is_integer, is_ptr, is_void, same_scalar, is_number_of};
 ghost use Rattle.ir_core.specs.Given.{result_type};
-ghost use Rattle.name_tables.specs.Kept.{scalar_of, is_of};
+ghost use Rattle.name_tables.specs.Kept.{scalar_of, is_of, is_register_type};
 
 use ir_core::{Kind, Ty};
 
@@ -58,6 +58,17 @@ fn is_width(width: u32) -> bool
     ensures { result ≡ is_width width }
 {
     width == 1 || width == 8 || width == 16 || width == 32 || width == 64
+}
+
+/// Whether a register can have the type.
+pub fn is_register_type(scalar: Option<Scalar>) -> bool
+    ensures { result ≡ is_register_type scalar }
+{
+    match scalar {
+        Some(Scalar::Int(width)) => is_width(width),
+        Some(Scalar::Ptr) => true,
+        None => false,
+    }
 }
 
 /// Whether the type is `ptr` or an integer type of a width that is read.
