@@ -22,4 +22,5 @@ pub use laws::{
     array_of_structs, byte_and_word, contains_itself, field_of_third, first_item,
     four_numbers_and_pointer, no_fields, no_such_field, one_back,
 };
+pub use names::{NameTable, functions_of, globals_of, table_of};
 pub use types::{Types, offset_of, size_of};

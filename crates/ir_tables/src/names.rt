@@ -9,7 +9,7 @@ use ir_core::{Block, Function, Inst, List, Name, OutOfMemory, Param};
 use std::alloc::Global;
 
 /// Names with their places in a list, each with its first.
-pub(crate) type NameTable<'a> = IndexMap<&'a [u8], usize>;
+pub type NameTable<'a> = IndexMap<&'a [u8], usize>;
 
 /// The names of one function.
 #[derive(Drop)]
@@ -22,7 +22,7 @@ pub(crate) struct Locals<'a> {
 }
 
 /// The table of a list of names. A name that stands twice keeps its first place.
-fn table_of<'a>(alloc: Global, names: &[&'a [u8]]) -> Result<NameTable<'a>, OutOfMemory>
+pub fn table_of<'a>(alloc: Global, names: &[&'a [u8]]) -> Result<NameTable<'a>, OutOfMemory>
     ensures { IfOk result (λ t. HasPlaces (names_seen names.now) t) }
 {
     let mut table = IndexMap::new(alloc);
@@ -46,7 +46,7 @@ pub(crate) fn place(table: &NameTable, name: &Name) -> Option<usize>
 }
 
 /// The table of the names of globals.
-pub(crate) fn globals_of<'a>(
+pub fn globals_of<'a>(
     alloc: Global,
     globals: &'a [ir_core::Global],
 ) -> Result<NameTable<'a>, OutOfMemory>
@@ -60,7 +60,7 @@ pub(crate) fn globals_of<'a>(
 }
 
 /// The table of the names of functions.
-pub(crate) fn functions_of<'a>(
+pub fn functions_of<'a>(
     alloc: Global,
     functions: &'a [Function],
 ) -> Result<NameTable<'a>, OutOfMemory>

@@ -1,0 +1,4 @@
+pub mod LesserLaws
+pub mod KeptLaws
+pub mod ListLaws
+pub mod FirstLaws

@@ -1,0 +1,148 @@
+//! The types, globals and functions of a module by their names.
+ghost use Rattle.std.specs.Prelude.{◌≡◌, map, IfOk, option_map, option_copied};
+ghost use Rattle.std.specs.List.{find};
+ghost use Rattle.std.specs.Str.{bytes_eq};
+ghost use Rattle.ir_core.specs.Given.{type_given, symbol_given, first_symbol};
+ghost use Rattle.ir_tables.specs.Names.{HasPlaces, found_place};
+ghost use Rattle.name_tables.specs.Tables.{type_name, symbol_seen};
+
+use ir_core::{Function, List, Module, Name, OutOfMemory, Ty, TypeDef};
+use ir_tables::{NameTable, functions_of, globals_of, table_of};
+use std::alloc::Global;
+use std::marker::Model;
+
+/// What `@N` stands for.
+#[derive(Clone, Copy)]
+pub enum Symbol<'a> {
+    /// A global variable.
+    Variable,
+    Routine(&'a Function),
+}
+
+/// The names of a module in tables. Contracts see the module.
+#[derive(Drop)]
+pub struct Tables<'a> {
+    module: &'a Module,
+    types: NameTable<'a>,
+    globals: NameTable<'a>,
+    functions: NameTable<'a>,
+}
+
+impl<'a> Model for Tables<'a> {
+    ghost use Rattle.std.specs.Coded.{codes};
+    ghost use Rattle.ir_core.specs.contracts.types.Ty as ty;
+    ghost use Rattle.ir_core.specs.contracts.module.Init as init;
+    ghost use Rattle.ir_core.specs.declared.module.Module.{Module};
+
+    ghost Value = { Module };
+
+    ghost coded = { Prim.hlevel (codes, ty.the_row.coded, init.the_row.coded) };
+
+    ghost view = { λ t. t.module.now };
+
+    ghost use Rattle.name_tables.specs.Tables.{AreTables};
+
+    ghost invariant = { AreTables };
+}
+
+fn types_of<'a>(alloc: Global, types: &'a [TypeDef]) -> Result<NameTable<'a>, OutOfMemory>
+    ensures { IfOk result (λ t. HasPlaces (map type_name types.now) t) }
+{
+    let mut names = List::new(alloc);
+    for def in types {
+        names.push(def.name.as_slice())?;
+    }
+    table_of(alloc, names.as_slice())
+}
+
+/// The place that a table has for a name.
+pub(crate) fn place(table: &NameTable, name: &[u8]) -> Option<usize>
+    ensures { result ≡ found_place table.now name.now }
+{
+    table.get(name).copied()
+}
+
+fn first_symbol<'a>(
+    global: Option<&'a ir_core::Global>,
+    function: Option<&'a Function>,
+) -> Option<Symbol<'a>>
+    ensures { option_map symbol_seen result ≡ first_symbol (option_copied global.entry) (option_copied function.entry) }
+{
+    match (global, function) {
+        (None, None) => None,
+        (Some(_), None) => Some(Symbol::Variable),
+        (None, Some(function)) => Some(Symbol::Routine(function)),
+        (Some(global), Some(function)) => {
+            if function.line < global.line {
+                Some(Symbol::Routine(function))
+            } else {
+                Some(Symbol::Variable)
+            }
+        }
+    }
+}
+
+impl<'a> Tables<'a> {
+    /// The names of a module.
+    pub fn of(alloc: Global, m: &'a Module) -> Result<Tables<'a>, OutOfMemory>
+        ensures { IfOk result (λ t. t ≡ m.now) }
+    {
+        Ok(Tables {
+            module: m,
+            types: types_of(alloc, m.types.as_slice())?,
+            globals: globals_of(alloc, m.globals.as_slice())?,
+            functions: functions_of(alloc, m.functions.as_slice())?,
+        })
+    }
+
+    /// The module.
+    pub fn module(&self) -> &'a Module
+        ensures { result.now ≡ self.now }
+    {
+        self.module
+    }
+
+    fn type_def(&self, name: &Name) -> Option<&'a TypeDef>
+        ensures { option_copied result ≡ find (λ d. bytes_eq d.name name.now) self.now.types }
+    {
+        match place(&self.types, name.as_slice()) {
+            None => None,
+            Some(at) => self.module.types.get(at),
+        }
+    }
+
+    /// What the name of a type stands for.
+    pub fn type_given(&self, name: &Name) -> Option<&'a Ty>
+        ensures { option_copied result ≡ type_given self.now.types name.now }
+    {
+        match self.type_def(name) {
+            None => None,
+            Some(def) => Some(&def.body),
+        }
+    }
+
+    fn global(&self, name: &Name) -> Option<&'a ir_core::Global>
+        ensures { option_copied result ≡ find (λ g. bytes_eq g.name name.now) self.now.globals }
+    {
+        match place(&self.globals, name.as_slice()) {
+            None => None,
+            Some(at) => self.module.globals.get(at),
+        }
+    }
+
+    fn function(&self, name: &Name) -> Option<&'a Function>
+        ensures { option_copied result ≡ find (λ f. bytes_eq f.name name.now) self.now.functions }
+    {
+        match place(&self.functions, name.as_slice()) {
+            None => None,
+            Some(at) => self.module.functions.get(at),
+        }
+    }
+
+    /// What the name of a global or a function stands for.
+    pub fn symbol(&self, name: &Name) -> Option<Symbol<'a>>
+        ensures { option_map symbol_seen result ≡ symbol_given self.now name.now }
+    {
+        first_symbol(self.global(name), self.function(name))
+    }
+}
