@@ -48,8 +48,8 @@ one_behind front t u = sym (append_assoc front (t ∷ []) (u ∷ []))
 pub pointer_operand : (front : List Lexeme) (a b : Bool) → Tells (Begins (front ++ probe_seen Pointer ∷ probe_seen Null ∷ [])) a → Tells (Begins (front ++ probe_seen Pointer ∷ probe_seen Zeros ∷ [])) b → Tells (ValueStands (front ++ probe_seen Pointer ∷ [])) (cond a (not b) false)
 pointer_operand front a b x y =
     both (Begins ((front ++ probe_seen Pointer ∷ []) ++ probe_seen Null ∷ [])) (InitStands (front ++ probe_seen Pointer ∷ [])) a b
-      (subst (λ l. Tells (Begins l) a) (one_behind front (probe_seen Pointer) (probe_seen Null)) x)
-      (subst (λ l. Tells (Begins l) b) (one_behind front (probe_seen Pointer) (probe_seen Zeros)) y)
+    (subst (λ l. Tells (Begins l) a) (one_behind front (probe_seen Pointer) (probe_seen Null)) x)
+    (subst (λ l. Tells (Begins l) b) (one_behind front (probe_seen Pointer) (probe_seen Zeros)) y)
 
 pub either_operand : (front : List Lexeme) (a b : Bool) → Tells (ValueStands (front ++ probe_seen Pointer ∷ [])) a → Tells (ValueStands front) b → Tells (OperandStands front) (cond a true b)
 either_operand front true b x y = inl x

@@ -23,7 +23,7 @@ from_within text spot at (q ∷ qs) h (inl p) =
     let l = length-drop at text in
     let e : at + q.size ≤ length text = omega arith in
     kept_within text (length text) at (at + q.size) q.kind e (tokens_from text (at + q.size) qs)
-      (from_within text (behind spot q.kind (take q.size (drop at text))) (at + q.size) qs e (subst (λ r. Pieces (behind spot q.kind (take q.size (drop at text))) r qs) (drop-drop q.size at text) p.1))
+    (from_within text (behind spot q.kind (take q.size (drop at text))) (at + q.size) qs e (subst (λ r. Pieces (behind spot q.kind (take q.size (drop at text))) r qs) (drop-drop q.size at text) p.1))
 from_within text spot at (q ∷ qs) h (inr p) =
     let l = length-drop at text in
     let size = ap (λ (r : Piece). r.size) p.0 in
@@ -69,4 +69,4 @@ ends_within text looked ts e h =
     let all : AllWithin (length found) (take (length (with_past text pieces) - 1) (with_past text pieces)) = all_but_last (length found) pieces (past_limit text pieces) (from_within found text_start 0 h.0 (omega arith) h.1) (past_short text pieces) in
     let seen : AllWithin (length found) (take (length (tokens_seen ts) - 1) (tokens_seen ts)) = subst (λ l. AllWithin (length found) (take (length l - 1) l)) (sym h.2) all in
     subst (λ l. AreWithin l (take (length ts - 1) ts)) (sym e)
-      (seen_within found (take (length ts - 1) ts) (subst (AllWithin (length found)) (ap (λ n. take (n - 1) (tokens_seen ts)) (length_seen ts) ∙ take_seen (length ts - 1) ts) seen))
+    (seen_within found (take (length ts - 1) ts) (subst (AllWithin (length found)) (ap (λ n. take (n - 1) (tokens_seen ts)) (length_seen ts) ∙ take_seen (length ts - 1) ts) seen))

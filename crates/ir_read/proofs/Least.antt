@@ -116,7 +116,7 @@ none_fits front t h = λ other g. h.all other g
 pub without_next : (front : List Lexeme) (t : Lexeme) (i : ℕ) (d : Construct) → i < length constructs → AreLeft front t (drop i constructs) → (Fits front t (get_or constructs i d) → ⊥) → AreLeft front t (drop (i + 1) constructs)
 without_next front t i d low h f =
     subst (λ n. AreLeft front t (drop n constructs)) (sym (add-one i))
-      (without_first front t (get_or constructs i d) (drop (suc i) constructs) (subst (AreLeft front t) (drop-cons constructs i d low) h) f)
+    (without_first front t (get_or constructs i d) (drop (suc i) constructs) (subst (AreLeft front t) (drop-cons constructs i d low) h) f)
 
 pub told_false : (A : Type 0) (b : Bool) → b ≡ false → Tells A b → A → ⊥
 told_false A true e t = let f : ⊥ = cc in absurd f

@@ -13,37 +13,111 @@ use read_forms::Lexeme;
 
 /// Types and instructions of floats.
 const FLOAT_WORDS: [&[u8]; 20] = [
-    b"half", b"bfloat", b"float", b"double", b"x86_fp80", b"fp128", b"ppc_fp128", b"fneg",
-    b"fadd", b"fsub", b"fmul", b"fdiv", b"frem", b"fcmp", b"fptrunc", b"fpext", b"fptoui",
-    b"fptosi", b"uitofp", b"sitofp",
+    b"half",
+    b"bfloat",
+    b"float",
+    b"double",
+    b"x86_fp80",
+    b"fp128",
+    b"ppc_fp128",
+    b"fneg",
+    b"fadd",
+    b"fsub",
+    b"fmul",
+    b"fdiv",
+    b"frem",
+    b"fcmp",
+    b"fptrunc",
+    b"fpext",
+    b"fptoui",
+    b"fptosi",
+    b"uitofp",
+    b"sitofp",
 ];
 /// Address spaces.
-const SPACE_WORDS: [&[u8]; 3] = [
-    b"addrspace", b"addrspacecast", b"thread_local",
-];
+const SPACE_WORDS: [&[u8]; 3] = [b"addrspace", b"addrspacecast", b"thread_local"];
 /// Values that are not defined.
-const UNDEF_WORDS: [&[u8]; 2] = [
-    b"undef", b"poison",
-];
+const UNDEF_WORDS: [&[u8]; 2] = [b"undef", b"poison"];
 /// Values with parts.
 const AGGREGATE_WORDS: [&[u8]; 5] = [
-    b"extractvalue", b"insertvalue", b"cmpxchg", b"byval", b"sret",
+    b"extractvalue",
+    b"insertvalue",
+    b"cmpxchg",
+    b"byval",
+    b"sret",
 ];
 /// Calls that can unwind.
-const INVOKE_WORDS: [&[u8]; 4] = [
-    b"invoke", b"callbr", b"landingpad", b"resume",
-];
+const INVOKE_WORDS: [&[u8]; 4] = [b"invoke", b"callbr", b"landingpad", b"resume"];
 /// The words that begin an instruction or name its operation in LLVM 16.
 const INSTRUCTION_WORDS: [&[u8]; 68] = [
-    b"ret", b"br", b"switch", b"indirectbr", b"invoke", b"callbr", b"resume", b"catchswitch",
-    b"catchret", b"cleanupret", b"unreachable", b"fneg", b"add", b"fadd", b"sub", b"fsub", b"mul",
-    b"fmul", b"udiv", b"sdiv", b"fdiv", b"urem", b"srem", b"frem", b"shl", b"lshr", b"ashr",
-    b"and", b"or", b"xor", b"extractelement", b"insertelement", b"shufflevector", b"extractvalue",
-    b"insertvalue", b"alloca", b"load", b"store", b"fence", b"cmpxchg", b"atomicrmw",
-    b"getelementptr", b"trunc", b"zext", b"sext", b"fptrunc", b"fpext", b"fptoui", b"fptosi",
-    b"uitofp", b"sitofp", b"ptrtoint", b"inttoptr", b"bitcast", b"addrspacecast", b"icmp",
-    b"fcmp", b"phi", b"select", b"freeze", b"call", b"tail", b"musttail", b"notail", b"va_arg",
-    b"landingpad", b"catchpad", b"cleanuppad",
+    b"ret",
+    b"br",
+    b"switch",
+    b"indirectbr",
+    b"invoke",
+    b"callbr",
+    b"resume",
+    b"catchswitch",
+    b"catchret",
+    b"cleanupret",
+    b"unreachable",
+    b"fneg",
+    b"add",
+    b"fadd",
+    b"sub",
+    b"fsub",
+    b"mul",
+    b"fmul",
+    b"udiv",
+    b"sdiv",
+    b"fdiv",
+    b"urem",
+    b"srem",
+    b"frem",
+    b"shl",
+    b"lshr",
+    b"ashr",
+    b"and",
+    b"or",
+    b"xor",
+    b"extractelement",
+    b"insertelement",
+    b"shufflevector",
+    b"extractvalue",
+    b"insertvalue",
+    b"alloca",
+    b"load",
+    b"store",
+    b"fence",
+    b"cmpxchg",
+    b"atomicrmw",
+    b"getelementptr",
+    b"trunc",
+    b"zext",
+    b"sext",
+    b"fptrunc",
+    b"fpext",
+    b"fptoui",
+    b"fptosi",
+    b"uitofp",
+    b"sitofp",
+    b"ptrtoint",
+    b"inttoptr",
+    b"bitcast",
+    b"addrspacecast",
+    b"icmp",
+    b"fcmp",
+    b"phi",
+    b"select",
+    b"freeze",
+    b"call",
+    b"tail",
+    b"musttail",
+    b"notail",
+    b"va_arg",
+    b"landingpad",
+    b"catchpad",
+    b"cleanuppad",
 ];
 
 /// The types of integers.
@@ -168,14 +242,20 @@ impl<'a> Stopped<'a> {
             Construct::FloatType => Ok(is_float(token) || is_word_among(token, &FLOAT_WORDS)),
             Construct::VectorType => Ok(token.is_mark(b'<') && self.type_stands()?),
             Construct::WideInteger => Ok(is_wide_integer(token)),
-            Construct::AddressSpace => Ok(is_word_among(token, &SPACE_WORDS) || self.is_other_space()?),
+            Construct::AddressSpace => Ok(
+                is_word_among(token, &SPACE_WORDS) || self.is_other_space()?,
+            ),
             Construct::UndefValue => Ok(is_word_among(token, &UNDEF_WORDS)),
             Construct::AggregateValue => Ok(is_word_among(token, &AGGREGATE_WORDS)),
             Construct::VolatileAccess => Ok(is_word_among(token, &[b"volatile"])),
             Construct::InlineAsm => Ok(is_word_among(token, &[b"asm"])),
             Construct::Invoke => Ok(is_word_among(token, &INVOKE_WORDS)),
-            Construct::MetadataOperand => Ok(is_word_among(token, &[b"metadata"]) || is_meta(token) && self.operand_stands()?),
-            Construct::Limit => Ok(is_past(token) || is_opening(token) && (self.type_stands()? || self.init_stands()?)),
+            Construct::MetadataOperand => Ok(
+                is_word_among(token, &[b"metadata"]) || is_meta(token) && self.operand_stands()?,
+            ),
+            Construct::Limit => Ok(
+                is_past(token) || is_opening(token) && (self.type_stands()? || self.init_stands()?),
+            ),
             Construct::ConstantExpression => Ok(is_instruction(token) && self.value_stands()?),
             Construct::Syntax
             | Construct::DuplicateName

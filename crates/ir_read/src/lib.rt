@@ -4,5 +4,7 @@
 mod fits;
 mod module;
 mod stopped;
+#[cfg(test)]
+mod tests;
 
 pub use module::{one_module, read_module};

@@ -6,10 +6,10 @@ ghost use Rattle.ir_core.specs.TextRefusals.{Begins, TypeStands, InitStands, Val
 ghost use Rattle.ir_lex.specs.Seen.{kind_seen, token_seen, tokens_seen};
 ghost use Rattle.ir_read.specs.Probes.{probe_bytes, probe_seen, Tells, AreWithin};
 
-use read_items::read_tokens;
 use ir_core::{List, Or, OutOfMemory};
 use ir_lex::{Token, TokenKind};
 use read_forms::{Ahead, Lexeme};
+use read_items::read_tokens;
 use std::alloc::{AllocError, Global};
 use std::marker::Model;
 
@@ -168,8 +168,10 @@ impl<'a> Stopped<'a> {
     fn pointer_operand_stands(&self) -> Result<bool, OutOfMemory>
         ensures { IfOk result (Tells (ValueStands (self.now.front ++ probe_seen Probe.Pointer ∷ []))) }
     {
-        Ok(self.begins(&[Probe::Pointer, Probe::Null])?
-            && !self.begins(&[Probe::Pointer, Probe::Zeros])?)
+        Ok(
+            self.begins(&[Probe::Pointer, Probe::Null])?
+                && !self.begins(&[Probe::Pointer, Probe::Zeros])?,
+        )
     }
 
     /// Whether an operand can stand at the place, or its value.

@@ -150,6 +150,7 @@ word_follows (t ∷ ts) e = (no_mark 61, no_mark 40)
     by_test : (m : ℕ) (b : Bool) → is_mark m t.kind ≡ b → b ≡ false
     by_test m false h = refl
     by_test m true h = let f : true ≡ false = sym e ∙ mark_no_word t m (mark_kind m t.kind h) in absurd (cc)
+
     no_mark : (m : ℕ) → at_mark m (Some t) ≡ false
     no_mark m = by_test m (is_mark m t.kind) refl
 
@@ -183,6 +184,7 @@ no_space ts e = by_test (space_goes (head ts)) refl
     always : (b : Bool) → cond b true true ≡ true
     always true = refl
     always false = refl
+
     by_test : (b : Bool) → space_goes (head ts) ≡ b → b ≡ false
     by_test false h = refl
     by_test true h = let f : true ≡ false = sym (ap (λ (b : Bool). cond (attribute_goes (head ts)) true (cond b true (local_goes (head ts)))) h ∙ always (attribute_goes (head ts))) ∙ e in absurd (cc)
@@ -194,6 +196,7 @@ no_local ts e = by_test (local_goes (head ts)) refl
     always true b = refl
     always false true = refl
     always false false = refl
+
     by_test : (b : Bool) → local_goes (head ts) ≡ b → b ≡ false
     by_test false h = refl
     by_test true h = let f : true ≡ false = sym (ap (λ (b : Bool). cond (attribute_goes (head ts)) true (cond (space_goes (head ts)) true b)) h ∙ always (attribute_goes (head ts)) (space_goes (head ts))) ∙ e in absurd (cc)
@@ -252,8 +255,8 @@ param_reads =
     many_then_reads attribute_goes attributes_reads (λ before.
     then_reads_where type_at type_ (Stops space_goes) _ _ NotParam type_reads (λ ty.
     then_reads_where attributes_at attributes (Stops attribute_goes) _ _ NotParam attributes_reads (λ behind. name_reads ty)
-      (λ behind front rest y s w. keeps_name attribute_goes (λ t k. ap goes (no_word attribute_words t Local k refl)) ty front rest y s (no_attribute rest w)))
-      (λ ty front rest y s w. keeps_then space_goes attributes (λ behind. NameOf ty) (keeps_dropped space_goes (any attribute_form) attribute_no_space) (λ behind. keeps_name space_goes (λ t k. no_word_spelled (codes "addrspace") t Local k refl) ty) front rest y s (no_space rest w)))
+    (λ behind front rest y s w. keeps_name attribute_goes (λ t k. ap goes (no_word attribute_words t Local k refl)) ty front rest y s (no_attribute rest w)))
+    (λ ty front rest y s w. keeps_then space_goes attributes (λ behind. NameOf ty) (keeps_dropped space_goes (any attribute_form) attribute_no_space) (λ behind. keeps_name space_goes (λ t k. no_word_spelled (codes "addrspace") t Local k refl) ty) front rest y s (no_space rest w)))
     (λ before. then_begins _ _ _ type_no_attribute)
 
 param_type_reads : Reads param_type_at param_type NotParam
@@ -262,7 +265,7 @@ param_type_reads =
     many_then_reads attribute_goes attributes_reads (λ before.
     then_reads_where type_at type_ (Stops space_goes) _ _ NotParam type_reads (λ ty.
     reads_before NotParam no_attribute (made_reads (λ behind. (ty, None)) attributes_reads))
-      (λ ty front rest y s w. keeps_then space_goes attributes (λ behind. spell.done (ty, None)) (keeps_dropped space_goes (any attribute_form) attribute_no_space) (λ behind. keeps_done space_goes (ty, None)) front rest y s (no_space rest w)))
+    (λ ty front rest y s w. keeps_then space_goes attributes (λ behind. spell.done (ty, None)) (keeps_dropped space_goes (any attribute_form) attribute_no_space) (λ behind. keeps_done space_goes (ty, None)) front rest y s (no_space rest w)))
     (λ before. then_begins _ _ _ type_no_attribute)
 
 param_marks : NotMarks param_goes

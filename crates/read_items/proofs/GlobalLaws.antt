@@ -46,7 +46,7 @@ global_reads name =
     many_then_reads item_word_goes kept_words_reads (λ words.
     then_reads constness_reads (λ constant.
     then_reads_where type_at type_ (Stops space_goes) _ _ Strong type_reads (λ ty. made_reads (λ c. (global_item name words constant ty c, c.next)) (contents_reads ty))
-      (λ ty front rest y s w. subst (λ l. Stops space_goes (l ++ rest)) (sym (s.5 ∙ ap (λ (l : List Lexeme). s.1 ++ l) s.4.0 ∙ append-nil s.1)) (holds_no_space ty s.1 rest s.0 s.3 w.3))))
+    (λ ty front rest y s w. subst (λ l. Stops space_goes (l ++ rest)) (sym (s.5 ∙ ap (λ (l : List Lexeme). s.1 ++ l) s.4.0 ∙ append-nil s.1)) (holds_no_space ty s.1 rest s.0 s.3 w.3))))
     (λ words. then_begins _ _ _ (one_begins _ _ constness_no_word))
 
 -- ---- types

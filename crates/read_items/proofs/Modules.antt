@@ -59,6 +59,7 @@ name_or_other ty ts init s = by_form (subst (λ n. init_in n ty ts init) limit_i
     other_or t (inr (inr (inl (n, inl h, v)))) e = inr (PlainInit, (t, (inr (inr (inl (n, inl h, v))), λ k. let f : ⊥ = (let a = h.0 in cc) in f), e))
     other_or t (inr (inr (inl (n, inr h, v)))) e = inr (PlainInit, (t, (inr (inr (inl (n, inr h, v))), λ k. let f : ⊥ = (let a = h.0 in cc) in f), e))
     other_or t (inr (inr (inr (inr h)))) e = inr (PlainInit, (t, (inr (inr (inr (inr h))), λ k. let f : ⊥ = (let a = h.0 in cc) in f), e))
+
     by_form : init_in (suc inner_limit) ty ts init → ((x : Named) × (t : Lexeme) × (with_line IsGlobal t x) × (ts ≡ t ∷ []) × (init ≡ Addr x.0)) ⊎ any (OtherForm ty) ts init
     by_form (PlainInit, s) = other_or s.0 s.1 s.2
     by_form (SquareInit, s) = inr (SquareInit, s)
@@ -89,11 +90,19 @@ split_end name words constant ty ts g (init, f, r, inr (i, a, z, S, (end, v), k)
   where
     by_init : ((align : ℕ) × Tail r align × (g ≡ global_item name words constant ty (holding init align))) → ((x : Named) × (t : Lexeme) × (with_line IsGlobal t x) × (a ≡ t ∷ []) × (i ≡ Addr x.0)) ⊎ any (OtherForm ty) a i → ts ≡ a ++ r → HoldsInit name words constant ty ts g ⊎ HoldsNone name words constant ty ts g
     by_init t (inl (x, u, h, w, j)) q =
-        inl (holding (Some (Addr x.0)) t.0, refl, (NameFirst, (x, u ∷ [], r, (u, h, refl), by_name x (begins_with_llvm x.0) r (holding (Some (Addr x.0)) t.0) (address_of x r t.0 t.1), q ∙ ap (λ (l : List Lexeme). l ++ r) w)),
-          t.2 ∙ ap (λ (o : Option Init). global_item name words constant ty (holding o t.0)) (v ∙ ap Some j))
+        inl (
+          holding (Some (Addr x.0)) t.0,
+          refl,
+          (NameFirst, (x, u ∷ [], r, (u, h, refl), by_name x (begins_with_llvm x.0) r (holding (Some (Addr x.0)) t.0) (address_of x r t.0 t.1), q ∙ ap (λ (l : List Lexeme). l ++ r) w)),
+          t.2 ∙ ap (λ (o : Option Init). global_item name words constant ty (holding o t.0)) (v ∙ ap Some j),
+        )
     by_init t (inr o) q =
-        inl (holding (Some i) t.0, refl, (OtherFirst, (i, a, r, o, (t.0, r, [], t.1, (refl, refl), sym (append-nil r)), q)),
-          t.2 ∙ ap (λ (o : Option Init). global_item name words constant ty (holding o t.0)) v)
+        inl (
+          holding (Some i) t.0,
+          refl,
+          (OtherFirst, (i, a, r, o, (t.0, r, [], t.1, (refl, refl), sym (append-nil r)), q)),
+          t.2 ∙ ap (λ (o : Option Init). global_item name words constant ty (holding o t.0)) v,
+        )
 
 -- ---- from the reading to the grammar
 
@@ -137,8 +146,12 @@ holds_ends name words constant ty ts c (inl (NameFirst, (x, f, r, (t, h, k), s, 
     by_llvm true q s = address_ends name words constant ty ts f r c x t h k s e
     by_llvm false q (inr s) = address_ends name words constant ty ts f r c x t h k s e
     by_llvm false q (inl (line, f', r', (u, m, k'), (end, v), e')) =
-        inr (x, ap (λ (d : Contents). d.next) v, (t, u, line, ((h.0, q), h.1), m, e ∙ ap (λ (l : List Lexeme). l ++ r) k ∙ ap (λ (l : List Lexeme). t ∷ l) (e' ∙ ap (λ (l : List Lexeme). l ++ r') k' ∙ ap (λ (l : List Lexeme). u ∷ l) end)),
-          subst (λ d. EndOf name words constant ty [] (global_item name words constant ty d)) (sym v) (no_init_end name words constant ty [] 0 no_tail))
+        inr (
+          x,
+          ap (λ (d : Contents). d.next) v,
+          (t, u, line, ((h.0, q), h.1), m, e ∙ ap (λ (l : List Lexeme). l ++ r) k ∙ ap (λ (l : List Lexeme). t ∷ l) (e' ∙ ap (λ (l : List Lexeme). l ++ r') k' ∙ ap (λ (l : List Lexeme). u ∷ l) end)),
+          subst (λ d. EndOf name words constant ty [] (global_item name words constant ty d)) (sym v) (no_init_end name words constant ty [] 0 no_tail),
+        )
 holds_ends name words constant ty ts c (inl (OtherFirst, (init, f, r, s, (align, a, z, w, (end, v), e'), e))) =
     let tail : r ≡ a = e' ∙ ap (λ (l : List Lexeme). a ++ l) end ∙ append-nil a in
     inl (ap (λ (d : Contents). d.next) v, subst (λ d. EndOf name words constant ty ts (global_item name words constant ty d)) (sym v) (with_init_end name words constant ty f r ts init align (other_init ty f init s) (subst (λ l. Tail l align) (sym tail) w) e))

@@ -17,8 +17,8 @@ behind_append names (v ∷ us) u =
     let p = param_of names v in
     let next = names ++ p.name ∷ [] in
     ap (λ (l : List Param). p ∷ l)
-      (behind_append next us u
-      ∙ ap (λ (l : List (List ℕ)). params_behind next us ++ param_of l u ∷ []) (append_assoc names (p.name ∷ []) (names_of (params_behind next us))))
+    (behind_append next us u
+    ∙ ap (λ (l : List (List ℕ)). params_behind next us ++ param_of l u ∷ []) (append_assoc names (p.name ∷ []) (names_of (params_behind next us))))
 
 pub behind_more : (i : ℕ) (us : List Unnumbered) (u : Unnumbered) → i < length us → params_behind [] (take (i + 1) us) ≡ params_behind [] (take i us) ++ record { name = name_or (get_or us i u).1 (decimal (numerals (params_behind [] (take i us)))); ty = (get_or us i u).0 } ∷ []
 behind_more i us u l = ap (params_behind []) (take_more us i u l) ∙ behind_append [] (take i us) (get_or us i u)

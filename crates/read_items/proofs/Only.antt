@@ -164,12 +164,15 @@ pending_by xs only chained name front rest g (words, f0, q0, W, (constant, f1, q
   where
     whole : front ++ rest ≡ f0 ++ (f1 ++ (f2 ++ (r2 ++ rest)))
     whole = ap (λ (l : List Lexeme). l ++ rest) (e0 ∙ ap (λ (l : List Lexeme). f0 ++ l) (e1 ∙ ap (λ (l : List Lexeme). f1 ++ l) e2)) ∙ four_and f0 f1 f2 r2 rest
+
     told : (h : GlobalItem) → g ≡ h → reads_all (Some name) (f0 ++ (f1 ++ (f2 ++ (r2 ++ rest)))) ≡ Ok (VariableItem h ∷ xs, []) → reads_all (Some name) (front ++ rest) ≡ Ok (VariableItem g ∷ xs, [])
     told h v k = ap (reads_all (Some name)) whole ∙ k ∙ ap (λ (i : GlobalItem). Ok (VariableItem i ∷ xs, [])) (sym v)
+
     by_tail : (align : ℕ) → Tail r2 align → g ≡ global_item name words constant ty (holding None align) → Pieces r2 align → reads_all (Some name) (front ++ rest) ≡ Ok (VariableItem g ∷ xs, [])
     by_tail align s v (inl p) = told (global_item name words constant ty (holding None 0)) (v ∙ ap (λ (n : ℕ). global_item name words constant ty (holding None n)) p.1) (ap (λ (l : List Lexeme). reads_all (Some name) (f0 ++ (f1 ++ (f2 ++ (l ++ rest))))) p.0 ∙ chained name words constant ty f0 f1 f2 rest W C T M)
     by_tail align s v (inr p) =
         told (global_item name words constant ty (holding None align)) v (bare_then xs only name words constant ty f0 f1 f2 W C T r2 rest M align s (ap (λ (l : List Lexeme). init_goes (head (l ++ rest))) (p.5 ∙ ap (λ (l : List Lexeme). l ++ p.2) p.3.2) ∙ comma_starts_none p.3.0 p.3.1.0))
+
     by_end : HoldsInit name words constant ty r2 g ⊎ HoldsNone name words constant ty r2 g → reads_all (Some name) (front ++ rest) ≡ Ok (VariableItem g ∷ xs, [])
     by_end (inl (c, n, s, v)) = told (global_item name words constant ty c) v (init_then xs only name words constant ty f0 f1 f2 W C T r2 rest M c n s)
     by_end (inr (align, s, v)) = by_tail align s v (from_tail r2 align s)
@@ -188,20 +191,26 @@ chained_next g xs pending name words constant ty f0 f1 f2 ts W C T (front, rest,
   where
     more : List Lexeme
     more = r' ++ rest
+
     begun : Contents
     begun = record { init = None; align = 0; next = Some next }
+
     all : List Lexeme
     all = f0 ++ (f1 ++ (f2 ++ (t ∷ u ∷ (r' ++ rest))))
+
     whole : ts ≡ t ∷ u ∷ (r' ++ rest)
     whole = e ∙ ap (λ (l : List Lexeme). l ++ rest) (e1 ∙ ap (λ (l : List Lexeme). l ++ r) k ∙ ap (λ (l : List Lexeme). t ∷ l) (e2 ∙ ap (λ (l : List Lexeme). l ++ r') k'))
+
     spelled : WithInit ty (t ∷ u ∷ []) (record { init = None; align = 0; next = Some next })
     spelled = (NameFirst, (next, t ∷ [], u ∷ [], (t, (h.0.0, h.1), refl), begins_by (begins_with_llvm next.0) h.0.1, refl))
       where
         begins_by : (b : Bool) → b ≡ false → ByName next b (u ∷ []) (record { init = None; align = 0; next = Some next })
         begins_by true q = let z : true ≡ false = q in absurd (cc)
         begins_by false q = inl (line, u ∷ [], [], (u, m, refl), (refl, refl), refl)
+
     held : contents_at ty (t ∷ u ∷ (r' ++ rest)) ≡ Ok (record { init = None; align = 0; next = Some next }, r' ++ rest)
     held = with_init_only ty (t ∷ u ∷ []) (r' ++ rest) (record { init = None; align = 0; next = Some next }) spelled (weak_word r' rest (begun_word next r' g G))
+
     read : begun_at name all ≡ Ok ((VariableItem (global_item name words constant ty begun), Some next), more)
     read = begun_only name all more (global_item name words constant ty begun, Some next) (global_at_only name words constant ty begun f0 f1 f2 (t ∷ u ∷ (r' ++ rest)) more W C T (no_word_spelled (codes "addrspace") t Global h.0.0.0 refl) held)
 
@@ -216,6 +225,7 @@ variable_is t u line name ts h m = ap (λ (o : Option ItemForm). by_form item_at
   where
     ahead : item_ahead (Some t) ≡ Some VariableForm
     ahead = variable_ahead t name.0 h.0
+
     read : item_at_form VariableForm (t ∷ u ∷ ts) ≡ begun_at name ts
     read =
         ap (λ (o : Option Named). then_read (made o t (u ∷ ts)) (λ name. one_at (as_mark 61) >>= λ equals. begun_at name)) (name_only t name h)
@@ -226,6 +236,7 @@ variable_then t u line name ts ys h m all = by_result (begun_at name ts) refl
   where
     goes_so : item_goes (Some t) ≡ true
     goes_so = ap goes (variable_ahead t name.0 h.0)
+
     by_result : (q : Result (Next × List Lexeme) ℕ) → begun_at name ts ≡ q → reads_all None (t ∷ u ∷ ts) ≡ Ok (ys, [])
     by_result (Err n) e = absurd (ok_not_err (ys, []) n (sym all ∙ linked_fails item_goes item_at step_shrinks (Some name) ts n refl e))
     by_result (Ok q) e =

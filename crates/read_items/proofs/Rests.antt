@@ -80,7 +80,7 @@ space_rest rest xs s =
 pub behind_rest : (rest : List Lexeme) (xs : List Item) → many item rest xs → Behind rest
 behind_rest rest xs s = (
   items_stop function_word_goes (λ t k. kind_no_word t Local k refl refl refl refl) (λ t form h. word_no_word t h.0 (not_in item_form_words function_words refl t form h))
-    (λ t k. kind_no_word t Passive k refl refl refl refl) (λ t k. kind_no_word t Global k refl refl refl refl) refl rest xs s,
+      (λ t k. kind_no_word t Passive k refl refl refl refl) (λ t k. kind_no_word t Global k refl refl refl refl) refl rest xs s,
   (mark_stops 61 rest xs s, mark_stops 40 rest xs s),
 )
 

@@ -42,9 +42,18 @@ begun_ended name ts v b (g, f, r, (words, f0, r0, W, (constant, f1, r1, C, (ty, 
     by_end (Some b) whole i n (inl (k, s)) = absurd (let z : ◌≡◌ {A = Option Named} (Some b) None = n ∙ k in cc)
     by_end None whole i n (inr (d, k, h, s)) = absurd (let z : ◌≡◌ {A = Option Named} None (Some d) = n ∙ k in cc)
     by_end (Some b) whole i n (inr (d, k, (t, u, line, h, m, q), s)) =
-        let same : d ≡ b = (let z : ◌≡◌ {A = Option Named} (Some b) (Some d) = n ∙ k in cc) in
-        (global_item name words constant ty c, f0 ++ (f1 ++ (f2 ++ [])), t, u, line, i, (words, f0, f1 ++ (f2 ++ []), W, (constant, f1, f2 ++ [], C, (ty, f2, [], T, s, refl), refl), refl),
-          subst (λ z. with_line IsItemName t z) same h, m, whole ∙ ap (λ (l : List Lexeme). f0 ++ (f1 ++ (f2 ++ l))) q ∙ behind_four f0 f1 f2 (t ∷ u ∷ []))
+        let same : d ≡ b = (let z : ◌≡◌ {A = Option Named} (Some b) (Some d) = n ∙ k in cc) in (
+          global_item name words constant ty c,
+          f0 ++ (f1 ++ (f2 ++ [])),
+          t,
+          u,
+          line,
+          i,
+          (words, f0, f1 ++ (f2 ++ []), W, (constant, f1, f2 ++ [], C, (ty, f2, [], T, s, refl), refl), refl),
+          subst (λ z. with_line IsItemName t z) same h,
+          m,
+          whole ∙ ap (λ (l : List Lexeme). f0 ++ (f1 ++ (f2 ++ l))) q ∙ behind_four f0 f1 f2 (t ∷ u ∷ []),
+        )
 
 -- ---- all items
 

@@ -29,16 +29,25 @@ keyword = record { kind = Word; bytes = codes "global"; line = 0 }
 some_global : (name : Named) → BegunOf name (keyword ∷ type_reads.some) (VariableItem (global_item name [] false type_reads.value (holding None 0)), None)
 unfolding keyword
 some_global name =
-    let r = type_reads in
-    (
+    let r = type_reads in (
       (global_item name [] false r.value (holding None 0), None),
       keyword ∷ r.some,
       [],
-      ([], [], keyword ∷ r.some, ([], [], [], refl, (refl, refl), refl),
-        (false, keyword ∷ [], r.some, (keyword, (refl, inl (refl, refl)), refl),
+      (
+        [],
+        [],
+        keyword ∷ r.some,
+        ([], [], [], refl, (refl, refl), refl),
+        (
+          false,
+          keyword ∷ [],
+          r.some,
+          (keyword, (refl, inl (refl, refl)), refl),
           (r.value, r.some, [], r.spelled, (holding None 0, [], [], inr (0, [], [], (tt, [], [], inl (refl, refl), (tt, [], [], inl (refl, refl), inl (refl, refl), refl), refl), (refl, refl), refl), (refl, refl), refl), sym (append-nil r.some)),
-          refl),
-        refl),
+          refl,
+        ),
+        refl,
+      ),
       (refl, refl),
       sym (append-nil (keyword ∷ r.some)),
     )

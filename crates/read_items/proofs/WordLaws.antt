@@ -119,7 +119,7 @@ unfolding tail_at
 pieces_first =
     pieces_reads (either_at (at_word (codes "section")) section_first_at last_piece_at) (either SectionFirst LastPiece)
     (either_reads (at_word (codes "section")) section_first_at last_piece_at SectionFirst LastPiece (Stops (at_mark 44)) section_reads last_piece_reads
-      (then_begins _ _ _ (word_begins _ _ (is_spelled (codes "section")))) (either_begins ComdatFirst alignment _ comdat_no_section (alignment_no_word (codes "section") refl)))
+    (then_begins _ _ _ (word_begins _ _ (is_spelled (codes "section")))) (either_begins ComdatFirst alignment _ comdat_no_section (alignment_no_word (codes "section") refl)))
 
 -- ---- the same, as the grammar has it
 
@@ -159,8 +159,14 @@ from_rest ts r n e (inr (line, c, q, m, last, g)) = inr (line, c, q, m, inr last
 pub from_tail : (ts : List Lexeme) (n : ℕ) → Tail ts n → Pieces ts n
 from_tail ts n (u, f, r, inl h, last, e) = from_rest ts r n (e ∙ at_front f r h.0) (from_last r n last)
 from_tail ts n (u, f, r, inr (line, c, w, m, (l, x, y, ws, ys, k), g), last, e) =
-    inr (line, c, x ++ (y ++ r), m, inl (l, x, y ++ r, ws, (tt, y, r, ys, from_last r n last, refl), refl),
-      e ∙ ap (λ (l : List Lexeme). l ++ r) (g ∙ ap (λ (l : List Lexeme). c ++ l) k) ∙ append_assoc c (x ++ y) r ∙ ap (λ (l : List Lexeme). c ++ l) (append_assoc x y r))
+    inr (
+      line,
+      c,
+      x ++ (y ++ r),
+      m,
+      inl (l, x, y ++ r, ws, (tt, y, r, ys, from_last r n last, refl), refl),
+      e ∙ ap (λ (l : List Lexeme). l ++ r) (g ∙ ap (λ (l : List Lexeme). c ++ l) k) ∙ append_assoc c (x ++ y) r ∙ ap (λ (l : List Lexeme). c ++ l) (append_assoc x y r),
+    )
 
 pub tail_reads : Reads tail_at Tail (Stops (at_mark 44))
 tail_reads = reads_as tail_at Pieces Tail (Stops (at_mark 44)) pieces_first to_tail from_tail

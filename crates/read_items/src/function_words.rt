@@ -72,9 +72,7 @@ fn read_plain_word<'a>(alloc: Global, ahead: Ahead<'a>) -> Reading<'a, List<Name
 {
     let left = ahead.left();
     match ahead.split() {
-        Some((token, rest))
-            if token.is_word() && plain_function_word(token.bytes()).is_some() =>
-        {
+        Some((token, rest)) if token.is_word() && plain_function_word(token.bytes()).is_some() => {
             Ok((List::new(alloc), rest))
         }
         _ => Err(Or::Refused(left)),

@@ -136,10 +136,7 @@ fn number_behind(number: usize, name: &[u8]) -> usize
 }
 
 /// Parameters of which those without a name are numbered, and the next number.
-fn numbered(
-    alloc: Global,
-    given: &[Unnumbered],
-) -> Result<(List<Param>, usize), OutOfMemory>
+fn numbered(alloc: Global, given: &[Unnumbered]) -> Result<(List<Param>, usize), OutOfMemory>
     ensures params { IfOk result (λ r. r.0 ≡ params_behind [] given.now) }
     ensures next { IfOk result (λ r. r.1 ≡ numerals r.0) }
 {

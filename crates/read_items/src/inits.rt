@@ -6,9 +6,7 @@ ghost use Rattle.read_items.specs.Inits.{init_words, as_plain_init, element_at, 
 
 use ir_core::{Element, Init, List, Or, Ty, Value};
 use ir_lex::TokenKind;
-use read_forms::{
-    Ahead, Reading, expect_mark, number_value, quoted_name, read_type, spelled_name,
-};
+use read_forms::{Ahead, Reading, expect_mark, number_value, quoted_name, read_type, spelled_name};
 use std::alloc::Global;
 
 /// The initializer that a word spells.

@@ -182,7 +182,11 @@ fn read_item<'a>(alloc: Global, pending: Option<Named>, ahead: Ahead<'a>) -> Rea
 fn front(line: &[u8], count: usize) -> &[u8]
     ensures { result.now ≡ take count line.now }
 {
-    if line.len() < count { line } else { &line[..count] }
+    if line.len() < count {
+        line
+    } else {
+        &line[..count]
+    }
 }
 
 /// Whether a line that is kept whole stands before the items.

@@ -98,8 +98,7 @@ fn item_word(word: &[u8]) -> Option<()>
 fn is_item_word(token: &read_forms::Lexeme) -> bool
     ensures { result ≡ item_word_goes (Some token.now) }
 {
-    token.is_word()
-        && (item_word(token.bytes()).is_some() || convention(token.bytes()).is_some())
+    token.is_word() && (item_word(token.bytes()).is_some() || convention(token.bytes()).is_some())
 }
 
 /// A word that is kept, or a calling convention, which is dropped.
