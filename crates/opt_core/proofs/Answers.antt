@@ -31,6 +31,11 @@ pub check_failed : {T : Type 0} (text : List ℕ) (m : Module) (result : Result 
 check_failed text m (Ok c) reads h = tt
 check_failed text m (Err e) reads h = not_checked text m e reads h
 
+-- a checked module is the one that was read
+pub is_taken : (text : List ℕ) (m : Module) (result : Result Module (Or Refusal)) → Reads text m → IfOk result (λ c. c ≡ m) → IfOk result (λ c. HasFirstForm m) → IfOk result (λ c. Accepts text c)
+is_taken text m (Ok c) reads same form = subst (Accepts text) (sym same) (reads, form)
+is_taken text m (Err e) reads same form = tt
+
 pub is_optimised : (text : List ℕ) (m : Module) (result : Result Reply OutOfMemory) → Accepts text m → IfOk result (λ r. (r.status ≡ 0) × (r.out ≡ Text (machine_off m)) × (r.notes ≡ remarks_text (Remarks m))) → IfOk result (λ r. IsTextReply text r.status r.out r.notes)
 is_optimised text m (Ok r) accepts h = inl (m, accepts, λ l fits. machine_off_refines m l accepts.1 fits, h.0, h.1, h.2)
 is_optimised text m (Err e) accepts h = tt

@@ -1,5 +1,5 @@
 use Rattle.std.proofs.lemmas.Result.{err_from_is_err_and}
-use Rattle.opt_core.proofs.Answers.{not_read, check_failed}
+use Rattle.opt_core.proofs.Answers.{not_read, check_failed, is_taken}
 use Rattle.opt_core.proofs.reply.read_checked.Goals as goal
 
 pub returns-in_err-m-clause-refused : goal.returns-in_err-m-clause-refused
@@ -9,3 +9,6 @@ returns-in_err-m-clause-refused c =
 
 pub returns-clause-refused : goal.returns-clause-refused
 returns-clause-refused c = check_failed c.args.text.now c.in_ok-m.m c.check.result c.in_ok-m.ensures.found c.check.ensures.refused
+
+pub returns-clause-taken : goal.returns-clause-taken
+returns-clause-taken c = is_taken c.args.text.now c.in_ok-m.m c.check.result c.in_ok-m.ensures.found c.check.ensures.same c.check.ensures.passed
