@@ -1,24 +1,24 @@
 -- What a global holds, and whether the next one is begun behind it, is read as it is spelled.
-use Rattle.std.proofs.Common.{◌≡◌, ℕ, suc, List, [], ◌∷◌, ◌++◌, codes, drop, Option, Some, None, Bool, true, false, cond, Result, Ok, Err, refl, sym, ap, ◌∙◌, subst, ◌⊎◌, inl, inr}
+use Rattle.std.proofs.Common.{◌≡◌, ℕ, List, [], ◌∷◌, ◌++◌, codes, Option, Some, None, Bool, true, false, cond, Ok, refl, sym, ap, ◌∙◌, inl, inr}
 use Rattle.ir_core.specs.declared.types.Ty.{Ty}
 use Rattle.ir_core.specs.declared.module.Init.{Init}
 use Rattle.ir_core.specs.declared.module.Init.TheVariants.{Addr}
-use Rattle.ir_core.specs.Tokens.{Lexeme, TokenKind, Word, Local, Global, Number, CText, Mark}
+use Rattle.ir_core.specs.Tokens.{Lexeme, TokenKind, Word, Global, Number, CText, Mark}
 use Rattle.ir_core.specs.Spell.{any, IsWordIn, IsMark, with_line, mark}
 use Rattle.ir_core.specs.Spell as spell
-use Rattle.ir_core.specs.Forms.{IsGlobal, nesting_limit, begins_with_llvm}
+use Rattle.ir_core.specs.Forms.{IsGlobal, begins_with_llvm}
 use Rattle.ir_core.specs.Language.{IsPlainInit, InitForm, PlainInit, SquareInit, BracesInit, init_form, init_in, element_of}
-use Rattle.read_forms.specs.Read.{Read, head, goes, one_at, pick, as_table, as_global, with_line_of, is_mark, is_word, is_global, at_mark, spells_word}
+use Rattle.read_forms.specs.Read.{head, goes, is_mark, is_word, is_global, at_mark}
 use Rattle.read_forms.specs.Forms.{space_goes}
 use Rattle.read_forms.proofs.Readers.{Reads, Free, Begins, Tests, one_reads, done_reads, then_reads, pick_reads, one_begins, then_begins, any_begins, reads_before}
 use Rattle.read_forms.proofs.Many.{Stops}
-use Rattle.read_forms.proofs.Choices.{either, either_begins}
+use Rattle.read_forms.proofs.Choices.{either}
 use Rattle.read_forms.proofs.TokenTests.{global_tests, lined_tests, table_only, no_word, no_word_spelled, not_spelled}
 use Rattle.read_forms.proofs.Lists.{mark_reads}
 use Rattle.read_forms.proofs.Laws.{made_reads}
-use Rattle.read_items.specs.Inits.{init_words, plain_by, as_plain_init, element_at, init_ahead, init_in_at}
-use Rattle.read_items.specs.Globals.{Named, Contents, holding, tail_at, address_at, next_begins_at, else_at, by_name_at, named_contents_at, other_by, as_other_init, inner_limit, other_init_at_form, other_contents_at, ContentsForm, NameFirst, OtherFirst, contents_at_form, contents_ahead, with_init_at, bare_at, init_starts_by, init_starts, init_goes, contents_at}
-use Rattle.read_items.proofs.InitLaws.{found_by, plain_only, by_kind, plain_first, form_of_kind, form_begins, form_reads, init_in_reads}
+use Rattle.read_items.specs.Inits.{init_words, plain_by, init_ahead}
+use Rattle.read_items.specs.Globals.{Named, Contents, holding, address_at, next_begins_at, by_name_at, named_contents_at, other_by, as_other_init, inner_limit, other_init_at_form, other_contents_at, ContentsForm, NameFirst, OtherFirst, contents_at_form, contents_ahead, with_init_at, bare_at, init_starts_by, init_starts, init_goes, contents_at}
+use Rattle.read_items.proofs.InitLaws.{found_by, plain_only, plain_first, form_of_kind, form_begins, form_reads, init_in_reads}
 use Rattle.read_items.proofs.WordLaws.{Tail, Pieces, from_tail, tail_reads}
 use Rattle.read_items.proofs.Otherwise.{else_reads, first_only, second_only}
 

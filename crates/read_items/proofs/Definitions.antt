@@ -1,28 +1,25 @@
 -- Definitions and declarations are read as they are spelled.
-use Rattle.std.proofs.Common.{◌≡◌, ℕ, List, [], ◌∷◌, ◌++◌, codes, map, Option, Some, None, Bool, true, false, cond, Result, Ok, Err, refl, sym, ap, ◌∙◌, subst, ◌⊎◌, inl, inr, append_assoc}
+use Rattle.std.proofs.Common.{◌≡◌, ℕ, List, [], ◌∷◌, ◌++◌, codes, map, Option, Some, None, Bool, true, false, cond, Ok, Err, refl, sym, ap, ◌∙◌}
 use Rattle.ir_core.specs.declared.types.Ty.{Ty}
-use Rattle.ir_core.specs.declared.types.Ty.TheVariants.{Void}
-use Rattle.ir_core.specs.declared.module.Function.{Function}
 use Rattle.ir_core.specs.declared.module.Block.{Block}
-use Rattle.ir_core.specs.declared.instructions.Inst.{Inst}
-use Rattle.ir_core.specs.Tokens.{Lexeme, TokenKind, Word, Local, Global, Label, Mark}
+use Rattle.ir_core.specs.Tokens.{Lexeme, TokenKind, Local, Global, Label, Mark}
 use Rattle.ir_core.specs.Spell.{SameNext, any, many, one, IsWord, IsWordIn, InTable, mark, word, with_line, list_to}
 use Rattle.ir_core.specs.Spell as spell
-use Rattle.ir_core.specs.Forms.{IsGlobal, type_, result_type, attributes, attribute_form, AttributeForm}
-use Rattle.ir_core.specs.Instructions.{conventions, body_of, block, plain, last, last_words, PlainForm, Assigns}
-use Rattle.ir_core.specs.Language.{Unnumbered, params_behind, param_name, next_number, param, param_type, item_words, kept_words, groups, Heading, heading, unlabelled, first_block, blocks, function_item, definition, declaration}
-use Rattle.read_forms.specs.Read.{Read, head, goes, one_at, many_at, as_one_of, all_for, as_table, is_word, is_local, is_label, is_mark, at_mark}
+use Rattle.ir_core.specs.Forms.{IsGlobal, type_, result_type}
+use Rattle.ir_core.specs.Instructions.{conventions, body_of, block, plain, last_words, Assigns}
+use Rattle.ir_core.specs.Language.{params_behind, param_name, next_number, item_words, heading, unlabelled, first_block, blocks, function_item, definition, declaration}
+use Rattle.read_forms.specs.Read.{head, goes, as_one_of, all_for, as_table, is_word, is_local, is_label, is_mark, at_mark}
 use Rattle.read_forms.specs.Forms.{space_goes, attribute_goes, attribute_words, void_types}
-use Rattle.read_forms.proofs.Readers.{Reads, Taken, Halted, Free, Begins, one_reads, done_reads, then_reads, then_reads_where, one_begins, then_begins, any_begins, reads_before, same_head, same_front}
+use Rattle.read_forms.proofs.Readers.{Reads, Taken, Halted, Free, Begins, done_reads, then_reads, then_reads_where, one_begins, then_begins, same_head, same_front}
 use Rattle.read_forms.proofs.Many.{Stops, many_then_reads, dropped_begins, begins_stops, many_begins}
-use Rattle.read_forms.proofs.Choices.{either, either_begins}
-use Rattle.read_forms.proofs.TokenTests.{not_in, not_spelled, no_word, no_word_spelled, label_kind, apart}
+use Rattle.read_forms.proofs.Choices.{either_begins}
+use Rattle.read_forms.proofs.TokenTests.{not_in, no_word, no_word_spelled, label_kind, apart}
 use Rattle.read_forms.proofs.Lists.{mark_reads}
 use Rattle.read_forms.proofs.Laws.{word_reads, global_reads, made_reads, type_begins, type_words, type_no_attribute, result_type_reads, attributes_reads}
-use Rattle.read_body.specs.Ends.{goes_on, is_group}
+use Rattle.read_body.specs.Ends.{goes_on}
 use Rattle.read_body.specs.Body.{body_at, label_goes, block_at, plain_goes, plain_words}
 use Rattle.read_body.proofs.Laws.{body_reads, block_reads, block_first, blocks_reads, label_follows, other_no_end, plain_first}
-use Rattle.read_items.specs.Globals.{item_word_by, item_word_goes, kept_words_at, else_at}
+use Rattle.read_items.specs.Globals.{item_word_by, item_word_goes}
 use Rattle.read_items.specs.Functions.{function_word_goes, heading_at, first_line, unlabelled_at, first_block_at, blocks_at, definition_at, declaration_at}
 use Rattle.read_items.proofs.WordLaws.{kept_words_reads}
 use Rattle.read_items.proofs.Otherwise.{else_reads}

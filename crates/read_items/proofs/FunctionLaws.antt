@@ -1,35 +1,26 @@
 -- Functions are read as they are spelled.
-use Rattle.std.proofs.Common.{◌≡◌, ℕ, zero, suc, ◌<◌, ◌^◌, List, [], ◌∷◌, ◌++◌, codes, map, take, Option, Some, None, Bool, true, false, cond, Result, Ok, Err, refl, sym, ap, ◌∙◌, subst, ◌⊎◌, inl, inr, append_assoc, arith}
-use Rattle.std.specs.Prelude.{Contains, not}
+use Rattle.std.proofs.Common.{◌≡◌, ℕ, List, [], ◌∷◌, ◌++◌, codes, take, Option, Some, None, Bool, true, false, cond, refl, sym, ap, ◌∙◌, inl, inr, append_assoc, arith}
+use Rattle.std.specs.Prelude.{not}
 use Rattle.std.specs.List.{flat_map}
 use Rattle.std.specs.Str.{bytes_eq}
-use Rattle.std.proofs.lemmas.List.{append-nil}
 use Rattle.ir_core.specs.declared.types.Ty.{Ty}
-use Rattle.ir_core.specs.declared.types.Ty.TheVariants.{Void}
-use Rattle.ir_core.specs.declared.module.Function.{Function}
-use Rattle.ir_core.specs.declared.module.Block.{Block}
-use Rattle.ir_core.specs.Tokens.{Lexeme, TokenKind, Word, Local, Global, Label, Group, Text, Meta, Mark}
+use Rattle.ir_core.specs.Tokens.{Lexeme, TokenKind, Word, Local, Group, Mark}
 use Rattle.ir_core.specs.Spell.{any, many, one, IsWord, IsWordIn, InTable, IsMark, mark, word, with_line, list_to}
 use Rattle.ir_core.specs.Spell as spell
-use Rattle.ir_core.specs.Forms.{maybe, dropped, token, IsLocal, IsGlobal, IsOneOf, IsLength, type_, result_type, attributes, attribute_form, AttributeForm, PlainAttribute, nesting_limit}
-use Rattle.ir_core.specs.Instructions.{attachment, IsText, IsGroup, plain_function_words, conventions, body_of, block}
-use Rattle.ir_core.specs.Language.{Unnumbered, params_behind, param_name, next_number, IsDollar, comdat_name, text_value, FunctionWordForm, KeptGroup, PlainWord, TextWord, Section, Comdat, Aligned, Attached, IsKeptGroup, function_word, groups, some_local, param, param_type, item_words, kept_words, Heading, heading, unlabelled, first_block, blocks, function_item, definition, declaration}
-use Rattle.read_forms.specs.Read.{Read, Shrinks, then_read, done, head, goes, one_at, pick, many_at, maybe_at, list_at, as_one_of, all_for, as_table, as_word, as_local, as_global, look_up, is_word, is_local, is_mark, at_mark, at_word, spells_word}
-use Rattle.read_forms.specs.Forms.{as_length, type_at, result_type_at, space_goes, attribute_goes, attributes_at, attribute_words, void_types}
-use Rattle.read_forms.proofs.Readers.{Reads, Taken, Halted, Free, Begins, Tests, one_reads, done_reads, then_reads, then_reads_where, pick_reads, one_begins, then_begins, any_begins, reads_before, same_head}
+use Rattle.ir_core.specs.Forms.{maybe, dropped, IsLocal, type_, attributes, attribute_form, AttributeForm, nesting_limit}
+use Rattle.ir_core.specs.Instructions.{plain_function_words}
+use Rattle.ir_core.specs.Language.{Unnumbered, IsDollar, comdat_name, text_value, FunctionWordForm, KeptGroup, PlainWord, TextWord, Section, Comdat, Aligned, Attached, IsKeptGroup, function_word, groups, some_local, param, param_type}
+use Rattle.read_forms.specs.Read.{Shrinks, then_read, done, head, goes, maybe_at, list_at, all_for, as_table, is_word, is_local, is_mark, at_mark}
+use Rattle.read_forms.specs.Forms.{type_at, space_goes, attribute_goes, attributes_at, attribute_words}
+use Rattle.read_forms.proofs.Readers.{Reads, Free, Begins, Tests, one_reads, done_reads, then_reads, then_reads_where, pick_reads, one_begins, then_begins, reads_before}
 use Rattle.read_forms.proofs.Many.{Stops, shrinks_by, many_reads_where, many_then_reads, dropped_begins, begins_stops}
-use Rattle.read_forms.proofs.Choices.{maybe_reads, either, either_begins}
-use Rattle.read_forms.proofs.TokenTests.{some_is, word_kind, mark_kind, one_of_tests, contains_in, in_front, in_back, table_only, table_found, not_in, not_spelled, no_word, no_word_spelled, is_spelled, distinct, fresh, apart}
+use Rattle.read_forms.proofs.Choices.{maybe_reads}
+use Rattle.read_forms.proofs.TokenTests.{some_is, word_kind, mark_kind, contains_in, in_front, in_back, table_only, table_found, not_spelled, no_word, no_word_spelled}
 use Rattle.read_forms.proofs.Lists.{mark_reads, NotMarks, list_reads_where}
-use Rattle.read_forms.proofs.Laws.{word_reads, word_begins, local_reads, global_reads, length_reads, one_of_reads, made_reads, type_reads, type_begins, type_words, type_no_attribute, result_type_reads, attributes_reads, attribute_begins, type_in_no_mark}
-use Rattle.read_body.specs.Ends.{as_text, attachment_at, is_meta, is_meta_name, is_group, is_text, goes_on}
-use Rattle.read_body.specs.Body.{body_at, label_goes, block_at}
+use Rattle.read_forms.proofs.Laws.{word_reads, word_begins, local_reads, length_reads, one_of_reads, made_reads, type_reads, type_no_attribute, attributes_reads, attribute_begins, type_in_no_mark}
+use Rattle.read_body.specs.Ends.{is_meta, is_group, is_text}
 use Rattle.read_body.proofs.EndLaws.{text_reads, attachment_reads, is_meta_seen}
-use Rattle.read_body.proofs.Laws.{body_reads, block_reads, block_first, blocks_reads, label_follows, other_no_end}
-use Rattle.read_items.specs.Globals.{item_word_by, item_word_goes, kept_words_at, else_at}
-use Rattle.read_items.specs.Functions.{dollar_by, as_dollar, comdat_name_at, text_value_at, kept_group_by, as_kept_group, plain_word_at, text_word_at, section_at, comdat_at, aligned_word_at, attached_word_at, function_word_at_form, long_words, function_words, meta_form, function_word_of, function_word_ahead, function_word_goes, function_word_at, groups_at, some_local_at, local_goes, param_at, param_type_at, param_goes, heading_at, first_line, unlabelled_at, first_block_at, blocks_at, definition_at, declaration_at}
-use Rattle.read_items.proofs.WordLaws.{kept_words_reads}
-use Rattle.read_items.proofs.Otherwise.{else_reads}
+use Rattle.read_items.specs.Functions.{dollar_by, as_dollar, comdat_name_at, text_value_at, kept_group_by, as_kept_group, plain_word_at, text_word_at, section_at, comdat_at, aligned_word_at, attached_word_at, function_word_at_form, long_words, function_words, meta_form, function_word_ahead, function_word_goes, function_word_at, groups_at, some_local_at, local_goes, param_at, param_type_at, param_goes}
 
 -- ---- single tokens
 

@@ -1,28 +1,23 @@
 -- Globals and types are read as they are spelled.
-use Rattle.std.proofs.Common.{◌≡◌, ℕ, suc, List, [], ◌∷◌, ◌++◌, codes, Option, Some, None, Bool, true, false, cond, Result, Ok, Err, refl, sym, ap, ◌∙◌, subst, ◌⊎◌, inl, inr, append_assoc}
+use Rattle.std.proofs.Common.{◌≡◌, List, ◌++◌, codes, Option, Some, None, Bool, false, refl, sym, ap, ◌∙◌, subst, inl}
 use Rattle.std.proofs.lemmas.List.{append-nil}
-use Rattle.ir_core.specs.declared.types.Ty.{Ty}
-use Rattle.ir_core.specs.declared.module.Init.{Init}
-use Rattle.ir_core.specs.declared.module.Init.TheVariants.{Addr}
 use Rattle.ir_core.specs.declared.module.Global.{Global as GlobalItem}
-use Rattle.ir_core.specs.declared.module.TypeDef.{TypeDef}
-use Rattle.ir_core.specs.Tokens.{Lexeme, TokenKind, Word, Global, Local, Mark}
+use Rattle.ir_core.specs.Tokens.{Lexeme}
 use Rattle.ir_core.specs.Spell.{any, one, IsWordIn, IsMark, with_line, mark, word}
 use Rattle.ir_core.specs.Spell as spell
-use Rattle.ir_core.specs.Forms.{IsGlobal, IsLocal, maybe, next, type_, nesting_limit, begins_with_llvm}
-use Rattle.ir_core.specs.Instructions.{next_alignment, conventions}
-use Rattle.ir_core.specs.Language.{IsPlainInit, InitForm, PlainInit, SquareInit, BracesInit, init_form, init_in, element_of, some_init, item_words, kept_words, constness, section_word, comdat_word, global_of, type_def}
-use Rattle.read_forms.specs.Read.{Read, head, goes, one_at, as_one_of, all_for, as_table, as_local, with_line_of, is_mark, at_mark}
+use Rattle.ir_core.specs.Forms.{type_}
+use Rattle.ir_core.specs.Instructions.{conventions}
+use Rattle.ir_core.specs.Language.{item_words, kept_words, constness, type_def}
+use Rattle.read_forms.specs.Read.{goes, one_at, as_one_of, all_for, as_table}
 use Rattle.read_forms.specs.Forms.{type_at, space_goes}
-use Rattle.read_forms.proofs.Readers.{Reads, Free, Begins, one_reads, done_reads, then_reads, then_reads_where, one_begins, then_begins, reads_before}
+use Rattle.read_forms.proofs.Readers.{Reads, Free, one_reads, then_reads, then_reads_where, one_begins, then_begins}
 use Rattle.read_forms.proofs.Many.{Stops, many_then_reads}
-use Rattle.read_forms.proofs.Choices.{either}
 use Rattle.read_forms.proofs.TokenTests.{not_in, table_tests}
 use Rattle.read_forms.proofs.Lists.{mark_reads}
 use Rattle.read_forms.proofs.Laws.{word_reads, lined_local_reads, made_reads, type_reads}
-use Rattle.read_items.specs.Globals.{item_word_by, as_item_word, item_word_goes, kept_words_at, Named, Contents, holding, inner_limit, init_goes, contents_at, global_item, global_at, type_def_at}
-use Rattle.read_items.proofs.WordLaws.{kept_words_reads, Tail, LastTail}
-use Rattle.read_items.proofs.Contents.{Weak, Strong, Address, NextBegins, NamedContents, IsOtherInit, OtherForm, OtherContents, WithForm, WithInit, Bare, HoldsOf, contents_reads, holds_no_space}
+use Rattle.read_items.specs.Globals.{item_word_by, item_word_goes, Named, global_item, global_at, type_def_at}
+use Rattle.read_items.proofs.WordLaws.{kept_words_reads}
+use Rattle.read_items.proofs.Contents.{Strong, HoldsOf, contents_reads, holds_no_space}
 
 -- ---- globals, with the name of the next one where that is begun
 

@@ -1,22 +1,21 @@
 -- Initializers are read as they are spelled.
-use Rattle.std.proofs.Common.{◌≡◌, ℕ, zero, suc, List, [], ◌∷◌, ◌++◌, codes, drop, Option, Some, None, Bool, true, false, cond, refl, sym, ap, ◌∙◌, subst, ◌⊎◌, inl, inr}
+use Rattle.std.proofs.Common.{◌≡◌, ℕ, zero, suc, List, [], codes, drop, Option, Some, None, Bool, false, cond, refl, sym, ap, ◌∙◌, inl, inr}
 use Rattle.ir_core.specs.declared.types.Ty.{Ty}
 use Rattle.ir_core.specs.declared.module.Init.{Init}
 use Rattle.ir_core.specs.declared.module.Init.TheVariants.{Zero, Int as IntInit, Null as NullInit, Addr, Bytes, Square, Braces}
 use Rattle.ir_core.specs.declared.module.Element.{Element}
-use Rattle.ir_core.specs.declared.instructions.Value.{Value}
 use Rattle.ir_core.specs.declared.instructions.Value.TheVariants.{Int as IntValue}
-use Rattle.ir_core.specs.Tokens.{Lexeme, TokenKind, Word, Local, Global, Number, CText, Mark}
+use Rattle.ir_core.specs.Tokens.{Lexeme, TokenKind, Word, Global, Number, CText, Mark}
 use Rattle.ir_core.specs.Spell.{any, IsWordIn, InTable}
 use Rattle.ir_core.specs.Spell as spell
 use Rattle.ir_core.specs.Numbers.{is_number_in_range, kept_at}
 use Rattle.ir_core.specs.Escapes.{stem_name, quoted_bytes}
-use Rattle.ir_core.specs.Forms.{type_, IsValue, truth_words, nesting_limit}
+use Rattle.ir_core.specs.Forms.{IsValue, truth_words, nesting_limit}
 use Rattle.ir_core.specs.Language.{IsPlainInit, InitForm, PlainInit, SquareInit, BracesInit, init_form, init_in, element_of}
-use Rattle.read_forms.specs.Read.{Read, Shrinks, one_at, is_mark, is_word, spells_word, at_word, look_up}
-use Rattle.read_forms.specs.Forms.{type_at, space_goes}
+use Rattle.read_forms.specs.Read.{Shrinks, is_mark}
+use Rattle.read_forms.specs.Forms.{space_goes}
 use Rattle.read_forms.proofs.Readers.{Reads, Free, Begins, Tests, one_reads, done_reads, then_reads, pick_reads, one_begins, then_begins, any_begins}
-use Rattle.read_forms.proofs.Many.{Stops, shrinks_by, many_then_reads}
+use Rattle.read_forms.proofs.Many.{shrinks_by, many_then_reads}
 use Rattle.read_forms.proofs.TokenTests.{chosen_some, some_is, look_found, look_only, no_word_spelled, not_spelled}
 use Rattle.read_forms.proofs.Lists.{mark_reads, list_reads}
 use Rattle.read_forms.proofs.Laws.{type_reads, type_in_no_mark}

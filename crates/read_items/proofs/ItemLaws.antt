@@ -1,26 +1,18 @@
 -- The items of a module are read as they are spelled, and nothing else is.
-use Rattle.std.proofs.Common.{◌≡◌, ℕ, zero, suc, ◌<◌, List, [], ◌∷◌, ◌++◌, codes, drop, length, Option, Some, None, Bool, true, false, cond, Result, Ok, Err, refl, sym, ap, ◌∙◌, subst, ◌⊎◌, inl, inr, append_assoc, arith}
-use Rattle.std.proofs.lemmas.List.{append-nil}
-use Rattle.ir_core.specs.declared.module.Module.{Module}
-use Rattle.ir_core.specs.declared.module.Global.{Global as GlobalItem}
-use Rattle.ir_core.specs.declared.module.TypeDef.{TypeDef}
-use Rattle.ir_core.specs.declared.module.Function.{Function}
-use Rattle.ir_core.specs.Tokens.{Lexeme, TokenKind, Word, Local, Global, Passive}
+use Rattle.std.proofs.Common.{◌≡◌, ℕ, List, [], ◌∷◌, ◌++◌, codes, drop, Option, Some, None, Bool, true, false, cond, refl, ap, ◌∙◌, subst}
+use Rattle.ir_core.specs.Tokens.{Lexeme, TokenKind, Word, Global, Passive}
 use Rattle.ir_core.specs.Spell.{any, many, one, IsWord, IsWordIn, with_line, mark}
 use Rattle.ir_core.specs.Spell as spell
 use Rattle.ir_core.specs.Escapes.{stem_name}
-use Rattle.ir_core.specs.Forms.{IsLocal, IsGlobal, IsItemName, begins_with_llvm}
-use Rattle.ir_core.specs.Language.{Item, TypeItem, VariableItem, FunctionItem, LineItem, IsPassiveLine, type_def, definition, declaration, heading}
-use Rattle.read_forms.specs.Read.{Read, Shrinks, head, goes, one_at, pick, as_global, as_table, is_word, is_local, is_global, look_up, with_line_of}
-use Rattle.read_forms.specs.Forms.{space_goes}
-use Rattle.read_forms.proofs.Readers.{Reads, Free, Begins, Tests, one_reads, done_reads, then_reads, pick_reads, one_begins, then_begins, any_begins, reads_before}
-use Rattle.read_forms.proofs.Many.{Stops, shrinks_by}
-use Rattle.read_forms.proofs.TokenTests.{global_tests, lined_tests, some_is, chosen_some, table_only, no_word}
+use Rattle.ir_core.specs.Forms.{IsLocal, IsItemName, begins_with_llvm}
+use Rattle.ir_core.specs.Language.{Item, TypeItem, VariableItem, FunctionItem, LineItem, IsPassiveLine, type_def, definition, declaration}
+use Rattle.read_forms.specs.Read.{goes, as_global, as_table, is_local, is_global}
+use Rattle.read_forms.proofs.Readers.{Reads, Begins, Tests, one_reads, then_reads, pick_reads, one_begins, then_begins, reads_before}
+use Rattle.read_forms.proofs.TokenTests.{global_tests, lined_tests, some_is, chosen_some}
 use Rattle.read_forms.proofs.Lists.{mark_reads}
 use Rattle.read_forms.proofs.Laws.{word_begins, word_form, made_reads}
-use Rattle.read_items.specs.Globals.{Named, global_at, type_def_at}
-use Rattle.read_items.specs.Functions.{definition_at, declaration_at}
-use Rattle.read_items.specs.Items.{item_name_by, no_llvm, as_item_name, is_passive, as_line, ItemForm, TypeForm, VariableForm, DefinitionForm, DeclarationForm, LineForm, item_form_words, word_or_line, item_form_of, item_ahead, item_goes, begun_at, type_item_at, variable_item_at, definition_item_at, declaration_item_at, line_item_at, item_at_form, item_at}
+use Rattle.read_items.specs.Globals.{Named}
+use Rattle.read_items.specs.Items.{item_name_by, no_llvm, as_item_name, is_passive, as_line, ItemForm, TypeForm, VariableForm, DefinitionForm, DeclarationForm, LineForm, item_form_words, word_or_line, item_form_of, item_ahead, begun_at, type_item_at, variable_item_at, definition_item_at, declaration_item_at, line_item_at, item_at_form, item_at}
 use Rattle.read_items.proofs.Contents.{Strong}
 use Rattle.read_items.proofs.GlobalLaws.{GlobalOf, global_reads, type_def_reads}
 use Rattle.read_items.proofs.FunctionLaws.{Behind}

@@ -7,10 +7,10 @@ use Rattle.ir_core.specs.declared.answers.Or.TheVariants.{Refused, Memory}
 use Rattle.ir_core.specs.declared.module.Module.{Module}
 use Rattle.ir_core.specs.Tokens.{Lexeme}
 use Rattle.ir_core.specs.Language.{Item, module_of, item_lines, item_types, item_globals, item_functions, is_prelude_line}
-use Rattle.read_forms.specs.Read.{Read, then_read, done, head, Fails}
+use Rattle.read_forms.specs.Read.{then_read, done, head, Fails}
 use Rattle.read_items.specs.Linked.{linked_at, link_goes}
 use Rattle.read_items.specs.Globals.{Named}
-use Rattle.read_items.specs.Items.{item_goes, item_at, items_at, items_module_at}
+use Rattle.read_items.specs.Items.{item_goes, item_at, items_module_at}
 use Rattle.read_items.specs.Joined.{joined, with_item, module_behind}
 use Rattle.read_items.proofs.Linked.{put, linked_stops, linked_step, linked_fails}
 use Rattle.read_items.proofs.Spelled.{step_shrinks}

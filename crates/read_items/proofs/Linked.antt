@@ -1,9 +1,8 @@
 -- Items of which one can begin the next are read as they are spelled.
-use Rattle.std.proofs.Common.{◌≡◌, ℕ, zero, suc, ◌<◌, ◌≤◌, List, [], ◌∷◌, ◌++◌, length, Option, Some, None, Result, Ok, Err, Bool, true, false, refl, sym, ap, ◌∙◌, subst, append_assoc, length-append, arith}
-use Rattle.std.proofs.lemmas.List.{append-nil}
+use Rattle.std.proofs.Common.{◌≡◌, ℕ, zero, suc, ◌<◌, ◌≤◌, List, [], ◌∷◌, ◌++◌, length, Option, Some, None, Result, Ok, Err, Bool, true, false, refl, sym, ap, ◌∙◌, subst, append_assoc, arith}
 use Rattle.ir_core.specs.Tokens.{Lexeme}
 use Rattle.ir_core.specs.Spell.{SameNext}
-use Rattle.read_forms.specs.Read.{Read, then_read, head, put_all, Shrinks, Fails}
+use Rattle.read_forms.specs.Read.{Read, then_read, head, put_all, Shrinks}
 use Rattle.read_forms.proofs.Readers.{Taken, Halted, same_front, same_head, ok_parts, ok_not_err, err_is}
 use Rattle.read_items.specs.Linked.{Linked, link_goes, link, links, linked_at}
 

@@ -1,27 +1,19 @@
 -- Modules are read as they are spelled, and nothing else is.
-use Rattle.std.proofs.Common.{◌≡◌, ℕ, zero, suc, ◌<◌, List, [], ◌∷◌, ◌++◌, codes, length, Option, Some, None, Bool, true, false, cond, Result, Ok, Err, refl, sym, ap, ◌∙◌, subst, ◌⊎◌, inl, inr, append_assoc, length-append, arith}
+use Rattle.std.proofs.Common.{◌≡◌, ℕ, suc, List, [], ◌∷◌, ◌++◌, Option, Some, None, Bool, true, false, refl, sym, ap, ◌∙◌, subst, ◌⊎◌, inl, inr}
 use Rattle.std.proofs.lemmas.List.{append-nil}
 use Rattle.ir_core.specs.declared.types.Ty.{Ty}
 use Rattle.ir_core.specs.declared.module.Init.{Init}
 use Rattle.ir_core.specs.declared.module.Init.TheVariants.{Addr}
 use Rattle.ir_core.specs.declared.module.Global.{Global as GlobalItem}
-use Rattle.ir_core.specs.Tokens.{Lexeme, TokenKind, Word, Local, Global, Passive, Mark}
+use Rattle.ir_core.specs.Tokens.{Lexeme}
 use Rattle.ir_core.specs.Spell.{SameNext, IsFirstRefused, any, many, one, IsWordIn, IsMark, with_line, mark}
 use Rattle.ir_core.specs.Spell as spell
-use Rattle.ir_core.specs.Forms.{IsGlobal, IsItemName, maybe, next, type_, nesting_limit, begins_with_llvm}
+use Rattle.ir_core.specs.Forms.{IsGlobal, IsItemName, maybe, next, nesting_limit, begins_with_llvm}
 use Rattle.ir_core.specs.Instructions.{next_alignment}
-use Rattle.ir_core.specs.Language.{IsPlainInit, InitForm, PlainInit, SquareInit, BracesInit, init_form, init_in, element_of, some_init, kept_words, constness, section_word, comdat_word, global_of, global, Item, TypeItem, VariableItem, FunctionItem, LineItem, item}
-use Rattle.read_forms.specs.Read.{Read, Shrinks, head, goes, at_mark, is_mark}
-use Rattle.read_forms.proofs.Readers.{Reads, Taken, Halted, Free, Begins, then_begins, one_begins, any_begins}
-use Rattle.read_forms.proofs.Many.{Stops, shrinks_by}
-use Rattle.read_items.specs.Linked.{Linked, linked_at}
-use Rattle.read_items.specs.Globals.{Named, Contents, holding, inner_limit, init_goes, contents_at, ContentsForm, NameFirst, OtherFirst, global_item, global_at}
-use Rattle.read_items.specs.Items.{ItemForm, TypeForm, VariableForm, DefinitionForm, DeclarationForm, LineForm, item_ahead, item_goes, begun_at, item_at, items_at}
-use Rattle.read_items.proofs.Linked.{linked_takes, linked_halts, linked_step, linked_stops, put}
-use Rattle.read_items.proofs.WordLaws.{Tail, LastTail}
-use Rattle.read_items.proofs.Contents.{Weak, Strong, Address, NextBegins, ByName, NamedContents, IsOtherInit, OtherForm, OtherContents, WithForm, WithInit, Bare, HoldsOf}
-use Rattle.read_items.proofs.GlobalLaws.{GlobalOf}
-use Rattle.read_items.proofs.ItemLaws.{Next, BegunOf, begun_reads, ItemOf, EndsItem, item_form_reads, item_begins, StepOf, item_reads}
+use Rattle.ir_core.specs.Language.{IsPlainInit, PlainInit, SquareInit, BracesInit, init_in, some_init, section_word, comdat_word}
+use Rattle.read_items.specs.Globals.{Named, Contents, holding, inner_limit, NameFirst, OtherFirst, global_item}
+use Rattle.read_items.proofs.WordLaws.{Tail}
+use Rattle.read_items.proofs.Contents.{Address, ByName, OtherForm, WithInit, HoldsOf}
 
 -- ---- the grammar of a global, and the one that goes with the reading
 

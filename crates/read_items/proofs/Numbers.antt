@@ -1,11 +1,10 @@
 -- Parameters that have numbers for names.
-use Rattle.std.proofs.Common.{◌≡◌, ℕ, suc, ◌+◌, ◌<◌, ◌≤◌, Bool, true, false, List, [], ◌∷◌, ◌++◌, length, take, get_or, map, Option, refl, sym, ap, ◌∙◌, append_assoc, length-append, arith}
+use Rattle.std.proofs.Common.{◌≡◌, ℕ, ◌+◌, ◌<◌, ◌≤◌, Bool, true, false, List, [], ◌∷◌, ◌++◌, length, take, get_or, refl, sym, ap, ◌∙◌, append_assoc, arith}
 use Rattle.std.specs.Prelude.{decimal}
 use Rattle.std.specs.List.{filter}
 use Rattle.std.proofs.lemmas.List.{append-nil, take_more}
-use Rattle.ir_core.specs.declared.types.Ty.{Ty}
 use Rattle.ir_core.specs.declared.module.Param.{Param}
-use Rattle.ir_core.specs.Language.{Unnumbered, params_behind, param_name, is_numeral, next_number, name_or}
+use Rattle.ir_core.specs.Language.{Unnumbered, params_behind, is_numeral, next_number, name_or}
 use Rattle.read_items.specs.Numbered.{names_of, numerals}
 
 abbrev param_of : List (List ℕ) → Unnumbered → Param

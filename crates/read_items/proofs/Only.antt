@@ -1,28 +1,27 @@
 -- Whatever spells items is read as these items.
-use Rattle.std.proofs.Common.{◌≡◌, ℕ, List, [], ◌∷◌, ◌++◌, codes, Option, Some, None, Bool, true, false, cond, Result, Ok, Err, refl, sym, ap, ◌∙◌, subst, ◌⊎◌, inl, inr, append_assoc}
+use Rattle.std.proofs.Common.{◌≡◌, ℕ, List, [], ◌∷◌, ◌++◌, codes, Option, Some, None, Bool, true, false, Result, Ok, Err, refl, sym, ap, ◌∙◌, ◌⊎◌, inl, inr, append_assoc}
 use Rattle.std.proofs.lemmas.List.{append-nil}
 use Rattle.ir_core.specs.declared.types.Ty.{Ty}
 use Rattle.ir_core.specs.declared.module.Global.{Global as GlobalItem}
-use Rattle.ir_core.specs.Tokens.{Lexeme, TokenKind, Word, Global}
+use Rattle.ir_core.specs.Tokens.{Lexeme, Word, Global}
 use Rattle.ir_core.specs.Spell.{any, many, one, IsWordIn, IsMark, with_line, mark}
 use Rattle.ir_core.specs.Spell as spell
-use Rattle.ir_core.specs.Forms.{IsGlobal, IsItemName, IsOneOf, type_, begins_with_llvm}
-use Rattle.ir_core.specs.Language.{IsItemWord, kept_words, constness, global_of, global, Item, TypeItem, VariableItem, FunctionItem, LineItem, IsPassiveLine, item, type_def, definition, declaration}
+use Rattle.ir_core.specs.Forms.{IsItemName, type_, begins_with_llvm}
+use Rattle.ir_core.specs.Language.{IsItemWord, kept_words, constness, global_of, Item, TypeItem, VariableItem, FunctionItem, LineItem, IsPassiveLine, item, type_def, definition, declaration}
 use Rattle.read_forms.specs.Read.{Read, then_read, ◌>>=◌, done, made, head, one_at, as_mark, with_line_of, as_table, by_form, goes, at_mark, is_mark}
 use Rattle.read_forms.specs.Forms.{type_at, space_goes}
-use Rattle.read_forms.proofs.Readers.{Reads, Free, Begins, one_reads, then_reads, reads_before, ok_not_err}
-use Rattle.read_forms.proofs.Many.{Stops, begins_stops}
+use Rattle.read_forms.proofs.Readers.{Reads, Free, one_reads, ok_not_err}
+use Rattle.read_forms.proofs.Many.{Stops}
 use Rattle.read_forms.proofs.TokenTests.{lined_tests, mark_tests, no_word_spelled}
-use Rattle.read_forms.proofs.Lists.{mark_reads}
 use Rattle.read_forms.proofs.Laws.{made_reads, type_reads}
 use Rattle.read_items.specs.Linked.{link_goes, linked_at}
-use Rattle.read_items.specs.Globals.{item_word_goes, kept_words_at, Named, Contents, holding, init_goes, contents_at, ContentsForm, NameFirst, global_item, global_at}
+use Rattle.read_items.specs.Globals.{item_word_goes, Named, Contents, holding, init_goes, contents_at, NameFirst, global_item, global_at}
 use Rattle.read_items.specs.Items.{as_item_name, ItemForm, TypeForm, VariableForm, DefinitionForm, DeclarationForm, LineForm, item_ahead, item_goes, begun_at, type_item_at, definition_item_at, declaration_item_at, line_item_at, variable_item_at, item_at_form, item_at, items_at}
 use Rattle.read_items.proofs.Linked.{linked_step, linked_stops, linked_fails, put}
 use Rattle.read_items.proofs.WordLaws.{kept_words_reads, Tail, Pieces, from_tail}
-use Rattle.read_items.proofs.Contents.{Weak, NextBegins, ByName, Bare, HoldsOf, WithInit, with_init_only, bare_only, holds_no_space, tail_stops, comma_starts_none}
+use Rattle.read_items.proofs.Contents.{Weak, ByName, Bare, HoldsOf, WithInit, with_init_only, bare_only, holds_no_space, comma_starts_none}
 use Rattle.read_items.proofs.GlobalLaws.{constness_reads, constness_no_word, type_def_reads}
-use Rattle.read_items.proofs.Modules.{EndOf, HoldsInit, HoldsNone, split_end}
+use Rattle.read_items.proofs.Modules.{HoldsInit, HoldsNone, split_end}
 use Rattle.read_items.proofs.ItemLaws.{Next, ItemOf, item_begins, variable_ahead, item_name_tests, line_tests}
 use Rattle.read_items.proofs.FunctionLaws.{Behind}
 use Rattle.read_items.proofs.Definitions.{definition_reads, declaration_reads}

@@ -1,22 +1,21 @@
 -- What stands behind an item: nothing, or another item.
-use Rattle.std.proofs.Common.{◌≡◌, ℕ, List, [], ◌∷◌, ◌++◌, codes, Option, Some, None, Bool, true, false, cond, refl, sym, ap, ◌∙◌, inl, inr}
+use Rattle.std.proofs.Common.{◌≡◌, ℕ, List, [], ◌∷◌, ◌++◌, codes, Option, Some, None, Bool, true, false, cond, refl, ap, ◌∙◌, inl, inr}
 use Rattle.ir_core.specs.declared.module.Init.{Init}
 use Rattle.ir_core.specs.declared.module.Global.{Global as GlobalItem}
 use Rattle.ir_core.specs.declared.module.TypeDef.{TypeDef}
 use Rattle.ir_core.specs.declared.module.Function.{Function}
-use Rattle.ir_core.specs.Tokens.{Lexeme, TokenKind, Word, Local, Global, Passive}
-use Rattle.ir_core.specs.Spell.{many, one, IsWordIn, InTable, IsWord, with_line}
-use Rattle.ir_core.specs.Spell as spell
+use Rattle.ir_core.specs.Tokens.{Lexeme, TokenKind, Local, Global, Passive}
+use Rattle.ir_core.specs.Spell.{many, one, IsWordIn, with_line}
 use Rattle.ir_core.specs.Forms.{IsLocal, IsItemName}
 use Rattle.ir_core.specs.Language.{Item, TypeItem, VariableItem, FunctionItem, LineItem, item, IsPassiveLine, type_def, global, definition, declaration}
-use Rattle.read_forms.specs.Read.{head, goes, as_table, at_mark, is_mark}
+use Rattle.read_forms.specs.Read.{head, goes, at_mark, is_mark}
 use Rattle.read_forms.specs.Forms.{space_goes}
 use Rattle.read_forms.proofs.Readers.{Begins, one_begins, then_begins}
 use Rattle.read_forms.proofs.Many.{Stops}
 use Rattle.read_forms.proofs.TokenTests.{not_in, not_spelled, no_word_spelled}
 use Rattle.read_forms.proofs.Laws.{word_begins}
 use Rattle.read_items.specs.Inits.{init_words}
-use Rattle.read_items.specs.Globals.{init_starts_by, init_starts, init_goes}
+use Rattle.read_items.specs.Globals.{init_starts_by, init_goes}
 use Rattle.read_items.specs.Functions.{function_words, function_word_goes}
 use Rattle.read_items.specs.Items.{ItemForm, DefinitionForm, DeclarationForm, item_form_words}
 use Rattle.read_items.proofs.Contents.{Weak, by_kind_starts}

@@ -1,21 +1,19 @@
 -- Items that are read one after another are items of the grammar.
-use Rattle.std.proofs.Common.{◌≡◌, ℕ, zero, suc, ◌<◌, List, [], ◌∷◌, ◌++◌, codes, length, Option, Some, None, Bool, true, false, Result, Ok, Err, refl, sym, ap, ◌∙◌, subst, ◌⊎◌, inl, inr, append_assoc, length-append, arith}
+use Rattle.std.proofs.Common.{◌≡◌, ℕ, List, [], ◌∷◌, ◌++◌, Option, Some, None, Ok, Err, refl, sym, ap, ◌∙◌, subst, inl, inr, append_assoc}
 use Rattle.std.proofs.lemmas.List.{append-nil}
 use Rattle.ir_core.specs.declared.module.Global.{Global as GlobalItem}
-use Rattle.ir_core.specs.Tokens.{Lexeme, TokenKind, Word}
+use Rattle.ir_core.specs.Tokens.{Lexeme}
 use Rattle.ir_core.specs.Spell.{any, many, one, IsWordIn, IsMark, with_line, mark}
 use Rattle.ir_core.specs.Spell as spell
-use Rattle.ir_core.specs.Forms.{IsItemName, type_}
-use Rattle.ir_core.specs.Language.{kept_words, constness, global_of, Item, TypeItem, VariableItem, FunctionItem, LineItem, item}
-use Rattle.read_forms.specs.Read.{Read, Shrinks}
-use Rattle.read_forms.proofs.Readers.{Reads, Taken, Halted, Begins, then_begins, one_begins, any_begins}
+use Rattle.ir_core.specs.Forms.{IsItemName}
+use Rattle.ir_core.specs.Language.{global_of, Item, TypeItem, VariableItem, FunctionItem, LineItem, item}
+use Rattle.read_forms.specs.Read.{Shrinks}
+use Rattle.read_forms.proofs.Readers.{Taken, Halted, Begins}
 use Rattle.read_forms.proofs.Many.{shrinks_by}
-use Rattle.read_items.specs.Linked.{Linked, linked_at}
-use Rattle.read_items.specs.Globals.{Named, Contents, global_item}
-use Rattle.read_items.specs.Items.{ItemForm, TypeForm, VariableForm, DefinitionForm, DeclarationForm, LineForm, item_goes, item_at, items_at}
-use Rattle.read_items.proofs.Linked.{linked_takes, linked_halts}
-use Rattle.read_items.proofs.WordLaws.{kept_words_reads}
-use Rattle.read_items.proofs.Modules.{EndOf, IsBegun, EndsOr, holds_ends}
+use Rattle.read_items.specs.Linked.{Linked}
+use Rattle.read_items.specs.Globals.{Named, global_item}
+use Rattle.read_items.specs.Items.{TypeForm, VariableForm, DefinitionForm, DeclarationForm, LineForm, item_at}
+use Rattle.read_items.proofs.Modules.{EndsOr, holds_ends}
 use Rattle.read_items.proofs.ItemLaws.{Next, BegunOf, begun_reads, ItemOf, item_begins, StepOf, item_reads, global_first}
 
 -- ---- a global, and what is begun of the next

@@ -1,15 +1,14 @@
 -- Tokens to the end are read as the module that they spell; where they spell none, reading stops at the first that is refused.
-use Rattle.std.proofs.Common.{◌≡◌, ℕ, List, [], ◌∷◌, ◌++◌, codes, Option, Some, None, false, Result, Ok, Err, refl, sym, ap, ◌∙◌, subst, inl, inr}
+use Rattle.std.proofs.Common.{◌≡◌, ℕ, List, [], ◌∷◌, ◌++◌, codes, Option, Some, None, false, Ok, Err, refl, sym, ap, ◌∙◌, subst, inl, inr}
 use Rattle.std.proofs.lemmas.List.{append-nil}
 use Rattle.ir_core.specs.declared.answers.Or.{Or}
 use Rattle.ir_core.specs.declared.answers.Or.TheVariants.{Refused, Memory}
 use Rattle.ir_core.specs.declared.module.Module.{Module}
 use Rattle.ir_core.specs.Tokens.{Lexeme, Word}
 use Rattle.ir_core.specs.Spell.{IsFirstRefused, many}
-use Rattle.ir_core.specs.Spell as spell
 use Rattle.ir_core.specs.Language.{Item, VariableItem, item, module_of, module_to_end}
-use Rattle.read_forms.specs.Read.{Read, then_read, done, Fails}
-use Rattle.read_forms.proofs.Readers.{Reads, Taken, Halted, ok_parts}
+use Rattle.read_forms.specs.Read.{Fails}
+use Rattle.read_forms.proofs.Readers.{Reads, Taken, Halted}
 use Rattle.read_forms.proofs.Whole.{whole_found, whole_refused, whole_only}
 use Rattle.read_forms.proofs.Laws.{type_reads, made_reads}
 use Rattle.read_items.specs.Linked.{Linked}
@@ -17,7 +16,7 @@ use Rattle.read_items.specs.Globals.{Named, holding, global_item}
 use Rattle.read_items.specs.Items.{item_goes, item_at, items_at, items_module_at, module_at}
 use Rattle.read_items.specs.Refused.{IsTokenRefusal}
 use Rattle.read_items.proofs.Linked.{linked_takes, linked_halts}
-use Rattle.read_items.proofs.ItemLaws.{Next, BegunOf, StepOf}
+use Rattle.read_items.proofs.ItemLaws.{BegunOf, StepOf}
 use Rattle.read_items.proofs.Spelled.{linked_spelled, step_takes, step_halts, step_shrinks}
 use Rattle.read_items.proofs.Only.{items_only}
 

@@ -1,22 +1,20 @@
 -- The words of an item, and what stands behind the commas of a global, are read as they are spelled.
-use Rattle.std.proofs.Common.{◌≡◌, ℕ, zero, suc, ◌<◌, List, [], ◌∷◌, ◌++◌, codes, Option, Some, None, Bool, true, false, cond, Result, Ok, Err, refl, sym, ap, ◌∙◌, subst, ◌⊎◌, inl, inr, append_assoc, arith}
+use Rattle.std.proofs.Common.{◌≡◌, ℕ, List, [], ◌∷◌, ◌++◌, codes, Option, Some, None, true, false, refl, sym, ap, ◌∙◌, inl, inr, append_assoc, arith}
 use Rattle.std.proofs.lemmas.List.{append-nil}
-use Rattle.std.specs.Prelude.{Contains}
 use Rattle.std.specs.List.{flat_map}
-use Rattle.ir_core.specs.Tokens.{Lexeme, TokenKind, Word, Text}
+use Rattle.ir_core.specs.Tokens.{Lexeme, Word}
 use Rattle.ir_core.specs.Spell.{any, many, IsWord, IsWordIn, mark, word}
 use Rattle.ir_core.specs.Spell as spell
 use Rattle.ir_core.specs.Forms.{maybe, token, IsOneOf, next, alignment}
 use Rattle.ir_core.specs.Instructions.{next_alignment, IsText, conventions}
-use Rattle.ir_core.specs.Language.{item_words, IsItemWord, kept_words, section_word, comdat_word, constness}
-use Rattle.read_forms.specs.Read.{Read, one_at, goes, many_at, maybe_at, pick, as_one_of, all_for, as_table, as_word, at_word, spells_word, either_at, at_mark, is_mark, after_comma_at}
+use Rattle.ir_core.specs.Language.{item_words, IsItemWord, kept_words, section_word, comdat_word}
+use Rattle.read_forms.specs.Read.{Read, one_at, goes, maybe_at, as_one_of, all_for, at_word, spells_word, either_at, at_mark, is_mark, after_comma_at}
 use Rattle.read_forms.specs.Forms.{alignment_at}
-use Rattle.read_forms.proofs.Readers.{Reads, Free, Begins, Tests, one_reads, done_reads, then_reads, then_reads_where, pick_reads, one_begins, then_begins, reads_before, reads_as}
+use Rattle.read_forms.proofs.Readers.{Reads, Begins, Tests, one_reads, then_reads, one_begins, then_begins, reads_before, reads_as}
 use Rattle.read_forms.proofs.Many.{Stops, many_reads}
 use Rattle.read_forms.proofs.Choices.{maybe_reads, maybe_reads_where, either, either_reads, either_begins}
-use Rattle.read_forms.proofs.TokenTests.{one_of_tests, contains_in, not_in, some_is, distinct, chosen_some, is_spelled, not_spelled, fresh}
-use Rattle.read_forms.proofs.Lists.{mark_reads}
-use Rattle.read_forms.proofs.Laws.{word_reads, word_begins, word_form, made_reads, next_reads, alignment_reads}
+use Rattle.read_forms.proofs.TokenTests.{one_of_tests, contains_in, not_in, some_is, is_spelled, not_spelled, fresh}
+use Rattle.read_forms.proofs.Laws.{word_reads, word_begins, made_reads, next_reads, alignment_reads}
 use Rattle.read_body.specs.Ends.{next_alignment_at}
 use Rattle.read_body.proofs.EndLaws.{text_reads}
 use Rattle.read_items.specs.Globals.{item_word_by, as_item_word, item_word_goes, kept_words_at, comdat_first_at, last_piece_at, last_pieces_at, section_first_at, tail_at}

@@ -3,10 +3,9 @@ use Rattle.std.specs.Prelude.{ℕ, List, [], ◌∷◌, ◌++◌, map, take, cod
 use Rattle.std.specs.Prelude.{Option, Some as Present, None as Absent}
 use Rattle.std.specs.List.{flat_map}
 use Rattle.std.specs.Str.{bytes_eq}
-use Rattle.ir_core.specs.declared.types.Ty.{Ty}
 use Rattle.ir_core.specs.declared.module.Function.{Function}
 use Rattle.ir_core.specs.declared.module.Block.{Block}
-use Rattle.ir_core.specs.Tokens.{Lexeme, TokenKind, Group, Text, Meta}
+use Rattle.ir_core.specs.Tokens.{Lexeme}
 use Rattle.ir_core.specs.Instructions.{plain_function_words}
 use Rattle.ir_core.specs.Language.{Unnumbered, params_behind, param_name, next_number, Heading, FunctionWordForm, KeptGroup, PlainWord, TextWord, Section, Comdat, Aligned, Attached, function_item}
 use Rattle.read_forms.specs.Read.{Read, ◌>>=◌, done, head, one_at, pick, goes, many_at, maybe_at, list_at, as_local, as_global, as_mark, as_word, as_table, as_one_of, all_for, is_word, is_local, at_mark}

@@ -6,11 +6,10 @@ use Rattle.std.specs.List.{flat_map}
 use Rattle.ir_core.specs.declared.types.Ty.{Ty}
 use Rattle.ir_core.specs.declared.module.Init.{Init}
 use Rattle.ir_core.specs.declared.module.Init.TheVariants.{Addr}
-use Rattle.ir_core.specs.declared.module.Element.{Element}
 use Rattle.ir_core.specs.declared.module.Global.{Global as GlobalItem}
 use Rattle.ir_core.specs.declared.module.TypeDef.{TypeDef}
-use Rattle.ir_core.specs.Tokens.{Lexeme, TokenKind, Word, Global, Number, CText}
-use Rattle.ir_core.specs.Forms.{nesting_limit, begins_with_llvm}
+use Rattle.ir_core.specs.Tokens.{Lexeme, TokenKind, Global, Number, CText}
+use Rattle.ir_core.specs.Forms.{begins_with_llvm}
 use Rattle.ir_core.specs.Instructions.{conventions}
 use Rattle.ir_core.specs.Language.{InitForm, PlainInit, SquareInit, BracesInit, item_words, constness}
 use Rattle.read_forms.specs.Read.{Read, ◌>>=◌, done, head, one_at, pick, goes, many_at, maybe_at, either_at, at_word, as_local, as_global, as_mark, as_word, as_table, as_one_of, at_mark, after_comma_at, is_mark, is_global, with_line_of}

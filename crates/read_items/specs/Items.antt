@@ -1,13 +1,11 @@
 -- Reading the items of a module, one after another, and the module that they make.
-use Rattle.std.specs.Prelude.{ℕ, List, [], ◌∷◌, codes, Bool, true, false, not, if◌then◌else◌}
+use Rattle.std.specs.Prelude.{ℕ, List, [], ◌∷◌, codes, Bool, true, false, if◌then◌else◌}
 use Rattle.std.specs.Prelude.{Option, Some as Present, None as Absent}
 use Rattle.ir_core.specs.declared.module.Module.{Module}
-use Rattle.ir_core.specs.declared.module.Global.{Global as GlobalItem}
 use Rattle.ir_core.specs.Tokens.{Lexeme, TokenKind, Passive}
-use Rattle.ir_core.specs.Escapes.{stem_name}
 use Rattle.ir_core.specs.Forms.{begins_with_llvm}
 use Rattle.ir_core.specs.Language.{Item, TypeItem, VariableItem, FunctionItem, LineItem, module_of}
-use Rattle.read_forms.specs.Read.{Read, ◌>>=◌, done, one_at, pick, goes, whole, as_global, as_mark, as_table, is_local, is_global, with_line_of}
+use Rattle.read_forms.specs.Read.{Read, ◌>>=◌, done, one_at, pick, goes, whole, as_global, as_mark, as_table, is_local, with_line_of}
 use Rattle.read_items.specs.Linked.{linked_at}
 use Rattle.read_items.specs.Globals.{Named, global_at, type_def_at}
 use Rattle.read_items.specs.Functions.{definition_at, declaration_at}

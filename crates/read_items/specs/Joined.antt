@@ -1,7 +1,6 @@
 -- Items of a module, one put behind another.
-use Rattle.std.specs.Prelude.{List, [], ◌∷◌, ◌++◌, Option, Result}
+use Rattle.std.specs.Prelude.{List, [], ◌∷◌, ◌++◌, Option}
 use Rattle.ir_core.specs.declared.module.Module.{Module}
-use Rattle.ir_core.specs.Tokens.{Lexeme}
 use Rattle.ir_core.specs.Language as grammar
 use Rattle.read_forms.specs.Read.{Read, then_read, done}
 use Rattle.read_items.specs.declared.items.Item.{Item}

@@ -1,5 +1,5 @@
 -- Items of which one can begin the next: it goes on with what it has begun, and else as long as one more begins.
-use Rattle.std.specs.Prelude.{◌≡◌, ℕ, zero, suc, List, [], ◌∷◌, ◌++◌, length, Option, Some, None, Result, Ok, Err, Bool, true, false}
+use Rattle.std.specs.Prelude.{◌≡◌, ℕ, zero, suc, List, [], ◌∷◌, ◌++◌, length, Option, Some, None, Ok, Bool, true, false}
 use Rattle.ir_core.specs.Tokens.{Lexeme}
 use Rattle.read_forms.specs.Read.{Read, then_read, head}
 

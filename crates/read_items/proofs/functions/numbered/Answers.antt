@@ -1,7 +1,6 @@
-use Rattle.std.proofs.Common.{◌≡◌, ◌+◌, ◌<◌, ◌≤◌, ◌∷◌, [], length, take, arith}
+use Rattle.std.proofs.Common.{◌≡◌, ◌+◌, ◌<◌, ◌∷◌, [], length, arith}
 use Rattle.std.specs.List.{filter}
-use Rattle.ir_core.specs.Language.{is_numeral, params_behind}
-use Rattle.read_items.specs.Numbered.{numerals}
+use Rattle.ir_core.specs.Language.{is_numeral}
 use Rattle.read_items.proofs.Numbers.{behind_more, one_numeral, numerals_push}
 use Rattle.read_items.proofs.functions.numbered.Goals as goal
 
