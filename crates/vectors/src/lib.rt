@@ -1,0 +1,7 @@
+//! The worked rows, as tests over the crates of the program.
+#![tactic(auto)]
+
+#[cfg(test)]
+mod reading;
+#[cfg(test)]
+mod texts;
