@@ -1,5 +1,5 @@
 #!/usr/bin/env bash
-# Times `ompopt opt` on the longest texts of the first form, and prints time and peak memory. It is no test.
+# Times `ompopt opt` on texts near the limit, and prints time and peak memory. It is no test.
 # usage: bench/opt.sh [PROGRAM]      the program as `rt ci` leaves it: crates/ompopt/out/ompopt
 set -euo pipefail
 top=$(cd "$(dirname "$0")/.." && pwd)
@@ -46,7 +46,41 @@ def comments():
     line = "; " + "a comment that runs to the end of its line " * 2 + "\n"
     return line * ((LIMIT - len(short)) // len(line)) + short
 
-def measure(name, text, bar):
+FORMS = """%T{n} = type {{ i32, [4 x i8], ptr }}
+@g{n} = internal unnamed_addr constant %T{n} {{ i32 {n}, [4 x i8] c"\\00a~b", ptr @f{n} }}, align 8
+define internal noundef i32 @f{n}(ptr noalias nocapture %p, i32 noundef %x, i64) local_unnamed_addr #0 {{
+  %c = icmp sgt i32 %x, {n}
+  br i1 %c, label %then, label %"else part"
+then:                                             ; preds = %1
+  %a = getelementptr inbounds %T{n}, ptr %p, i64 0, i32 1, i64 %0
+  %b = load i8, ptr %a, align 1, !tbaa !7
+  %d = sext i8 %b to i32
+  %e = mul nsw i32 %d, -3
+  br label %end
+"else part":
+  call void @llvm.lifetime.start.p0(i64 8, ptr %p)
+  %h = atomicrmw add ptr %p, i32 1 seq_cst, align 4
+  %i = tail call fastcc i32 @f{n}(ptr nonnull align 8 %p, i32 %h, i64 1) #1, !dbg !9
+  switch i32 %i, label %end [
+    i32 0, label %end
+    i32 1, label %then
+  ]
+end:
+  %v = phi i32 [ %e, %then ], [ %i, %"else part" ], [ 7, %"else part" ]
+  ret i32 %v
+}}
+"""
+
+def all_forms():
+    """Types, globals and functions of many forms, 4 MiB of them. They are read, and then refused as not built."""
+    parts, size, n = [], 0, 0
+    while size < LIMIT - 2048:
+        parts.append(FORMS.format(n=n))
+        size += len(parts[-1])
+        n += 1
+    return "".join(parts)
+
+def measure(name, text, bar, want=0):
     path = os.path.join(work, name + ".ll")
     with open(path, "w") as f:
         f.write(text)
@@ -60,10 +94,11 @@ def measure(name, text, bar):
         took = time.monotonic() - start
         best = took if best is None else min(best, took)
         peak = max(peak, usage.ru_maxrss * 1024)
-        if os.waitstatus_to_exitcode(status) != 0:
+        if os.waitstatus_to_exitcode(status) != want:
             sys.exit(f"{name}: status {os.waitstatus_to_exitcode(status)}: {open(os.path.join(work, 'notes')).read()}")
     print(f"{name:14} {len(text):>9} bytes  {best:6.3f} s (bar {bar} s)  peak {peak / 2**20:7.1f} MiB, {peak / len(text):5.1f} times the text (bar 60)")
 
 measure("straight line", straight_line(), 0.3)
 measure("comments", comments(), 0.1)
+measure("all forms", all_forms(), 0.5, want=3)
 PY
