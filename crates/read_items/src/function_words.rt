@@ -1,22 +1,16 @@
 //! The words behind the parameters of a function.
-ghost use Rattle.std.specs.Prelude.{◌≡◌, take};
+ghost use Rattle.std.specs.Prelude.{◌≡◌};
 ghost use Rattle.read_forms.specs.Read.{Gives, head, one_at};
 ghost use Rattle.read_forms.specs.Seen.{if_some};
 ghost use Rattle.read_items.specs.Seen.{function_word_seen};
 ghost use Rattle.read_items.specs.Functions.{as_dollar, comdat_name_at, text_value_at, as_kept_group, plain_word_at, text_word_at, section_at, comdat_at, aligned_word_at, attached_word_at, function_word_of, function_word_ahead, function_word_goes, function_word_at, groups_at};
 
-use crate::words::{Words, gather, one_name};
+use crate::words::{Words, front, gather, one_name};
 use ir_core::{List, Name, Or};
 use ir_lex::TokenKind;
 use read_body::{expect_text, plain_function_word, read_attachment};
 use read_forms::{Ahead, Lexeme, Reading, expect_mark, expect_word, read_length};
 use std::alloc::Global;
-
-fn front(bytes: &[u8]) -> &[u8]
-    ensures { result.now ≡ take 1 bytes.now }
-{
-    if bytes.is_empty() { bytes } else { &bytes[..1] }
-}
 
 /// A word that begins with `$`.
 fn expect_dollar<'a>(ahead: Ahead<'a>) -> Reading<'a, ()>
@@ -24,7 +18,7 @@ fn expect_dollar<'a>(ahead: Ahead<'a>) -> Reading<'a, ()>
 {
     let left = ahead.left();
     match ahead.split() {
-        Some((token, rest)) if token.is_word() && front(token.bytes()) == b"$".as_slice() => {
+        Some((token, rest)) if token.is_word() && front(token.bytes(), 1) == b"$".as_slice() => {
             Ok(((), rest))
         }
         _ => Err(Or::Refused(left)),

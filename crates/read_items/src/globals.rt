@@ -1,5 +1,5 @@
 //! Globals and named types.
-ghost use Rattle.std.specs.Prelude.{◌≡◌, take};
+ghost use Rattle.std.specs.Prelude.{◌≡◌};
 ghost use Rattle.ir_core.specs.Forms.{begins_with_llvm};
 ghost use Rattle.ir_core.specs.Language.{constness};
 ghost use Rattle.read_forms.specs.Read.{Gives, head, one_at, as_global, as_table, with_line_of, after_comma_at};
@@ -7,7 +7,7 @@ ghost use Rattle.read_forms.specs.Widths.{HasWidth};
 ghost use Rattle.read_items.specs.Globals.{last_piece_at, comdat_first_at, last_pieces_at, section_first_at, tail_at, named_contents_at, as_other_init, other_contents_at, init_goes, contents_at, global_at, type_def_at};
 
 use crate::inits::{init_word, read_braces, read_plain_init, read_square};
-use crate::words::read_kept_words;
+use crate::words::{front, read_kept_words};
 use ir_core::{Global as Variable, Init, Name, Or, Ty, TypeDef};
 use ir_lex::TokenKind;
 use read_body::{expect_text, read_next_alignment};
@@ -98,17 +98,11 @@ fn read_tail<'a>(ahead: Ahead<'a>) -> Reading<'a, u32>
     }
 }
 
-fn front(name: &[u8]) -> &[u8]
-    ensures { result.now ≡ take 5 name.now }
-{
-    if name.len() < 5 { name } else { &name[..5] }
-}
-
 /// Whether the name is one of LLVM's own.
 pub(crate) fn begins_with_llvm(name: &[u8]) -> bool
     ensures { result ≡ begins_with_llvm name.now }
 {
-    front(name) == b"llvm.".as_slice()
+    front(name, 5) == b"llvm.".as_slice()
 }
 
 /// The address of a global; or, where a `=` stands behind the name, no initializer and the next global.

@@ -1,5 +1,5 @@
 //! The items of a module, and the module that they make.
-ghost use Rattle.std.specs.Prelude.{◌≡◌, take, IfOk, IfErr, OnOk};
+ghost use Rattle.std.specs.Prelude.{◌≡◌, IfOk, IfErr, OnOk};
 ghost use Rattle.ir_core.specs.Language.{module_to_end, is_prelude_line, LineItem};
 ghost use Rattle.read_forms.specs.Read.{Gives, GivesAs, head, one_at, with_line_of};
 ghost use Rattle.read_forms.specs.Seen.{if_some};
@@ -10,6 +10,7 @@ ghost use Rattle.read_items.specs.Refused.{IsTokenRefusal};
 
 use crate::functions::{read_declaration, read_definition};
 use crate::globals::{Named, begins_with_llvm, read_type_def, read_variable};
+use crate::words::front;
 use ir_core::{Function, Global as Variable, List, Module, Name, Or, TypeDef};
 use ir_lex::TokenKind;
 use read_forms::{Ahead, Lexeme, Reading, expect_mark, spelled_name};
@@ -179,16 +180,6 @@ fn read_item<'a>(alloc: Global, pending: Option<Named>, ahead: Ahead<'a>) -> Rea
     }
 }
 
-fn front(line: &[u8], count: usize) -> &[u8]
-    ensures { result.now ≡ take count line.now }
-{
-    if line.len() < count {
-        line
-    } else {
-        &line[..count]
-    }
-}
-
 /// Whether a line that is kept whole stands before the items.
 fn is_prelude_line(line: &[u8]) -> bool
     ensures { result ≡ is_prelude_line line.now }
@@ -198,25 +189,25 @@ fn is_prelude_line(line: &[u8]) -> bool
         || front(line, 6) == b"target".as_slice()
 }
 
-fn push_line(module: &mut Module, line: Name) -> Result<(), AllocError>
-    ensures { OnOk result (module.new ≡ with_item module.old (LineItem line)) }
+fn push_line(whole: &mut Module, line: Name) -> Result<(), AllocError>
+    ensures { OnOk result (whole.new ≡ with_item whole.old (LineItem line)) }
 {
     if is_prelude_line(line.as_slice()) {
-        module.prelude.push(line)?;
+        whole.prelude.push(line)?;
     } else {
-        module.tail.push(line)?;
+        whole.tail.push(line)?;
     }
     Ok(())
 }
 
-fn push_item(module: &mut Module, item: Item) -> Result<(), AllocError>
-    ensures { OnOk result (module.new ≡ with_item module.old (item_seen item)) }
+fn push_item(whole: &mut Module, item: Item) -> Result<(), AllocError>
+    ensures { OnOk result (whole.new ≡ with_item whole.old (item_seen item)) }
 {
     match item {
-        Item::NamedType(def) => module.types.push(def)?,
-        Item::Variable(variable) => module.globals.push(variable)?,
-        Item::Function(function) => module.functions.push(function)?,
-        Item::Line(line) => push_line(module, line)?,
+        Item::NamedType(def) => whole.types.push(def)?,
+        Item::Variable(variable) => whole.globals.push(variable)?,
+        Item::Function(function) => whole.functions.push(function)?,
+        Item::Line(line) => push_line(whole, line)?,
     }
     Ok(())
 }

@@ -1,5 +1,5 @@
 //! Words of items, some of which are kept.
-ghost use Rattle.std.specs.Prelude.{◌≡◌, [], ◌∷◌, drop, Some, None, false, Bool, Option, List as Listed, ℕ, IfOk};
+ghost use Rattle.std.specs.Prelude.{◌≡◌, [], ◌∷◌, take, drop, Some, None, false, Bool, Option, List as Listed, ℕ, IfOk};
 ghost use Rattle.ir_core.specs.Tokens.{Lexeme};
 ghost use Rattle.ir_core.specs.Language.{item_words};
 ghost use Rattle.read_forms.specs.Read.{Read, Gives, Shrinks, head, one_at, look_up, all_for};
@@ -43,6 +43,17 @@ pub(crate) fn gather<'a, T: Words>(alloc: Global, ahead: Ahead<'a>) -> Reading<'
         rest = after;
     }
     Ok((out, rest))
+}
+
+/// The first bytes, so many as this or all.
+pub(crate) fn front(bytes: &[u8], count: usize) -> &[u8]
+    ensures { result.now ≡ take count bytes.now }
+{
+    if bytes.len() < count {
+        bytes
+    } else {
+        &bytes[..count]
+    }
 }
 
 /// A list of one name.
