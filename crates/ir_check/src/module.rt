@@ -9,7 +9,8 @@ ghost use Rattle.ir_check.specs.Refusal.{IsCheckRefusal};
 use crate::kernel::{declares_deinit, declares_init, is_kernel};
 use crate::names::{Given, given_in, table_of};
 use crate::typing::blocks_well_typed;
-use ir_core::{Block, Checked, Construct, Function, Module, Or, OutOfMemory, Refusal, is_word};
+use ir_core::{Block, Construct, Function, Module, Or, OutOfMemory, Refusal, is_word};
+use ir_tables::Checked;
 use std::alloc::Global;
 
 const INSTRUCTION_LIMIT: usize = 200_000;

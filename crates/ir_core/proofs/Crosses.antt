@@ -6,8 +6,6 @@ use denote.Param.Send.{IsSend, IsSync, EachSend, EachSync, sendable, enum_send, 
 use denote.RattleType.{RattleType}
 use Rattle.ir_core.proofs.module.Init.TheLaws.TheKnot as init_knot
 use Rattle.ir_core.proofs.types.Ty.TheLaws.TheKnot as ty_knot
-use Rattle.ir_core.specs.contracts.checked.Checked as Checked
-use Rattle.ir_core.specs.contracts.checked.OutModule as OutModule
 use Rattle.ir_core.specs.contracts.instructions.Inst as Inst
 use Rattle.ir_core.specs.contracts.instructions.Kind as Kind
 use Rattle.ir_core.specs.contracts.instructions.Typed as Typed
@@ -56,12 +54,6 @@ function_send = search (parts_send, block_send) depth 20
 pub module_send : IsSend (Module.the_field).row
 module_send = search (parts_send, function_send) depth 20
 
-pub checked_send : IsSend Checked.the_row
-checked_send = search (parts_send, module_send) depth 20
-
-pub out_module_send : IsSend OutModule.the_row
-out_module_send = search (parts_send, module_send) depth 20
-
 ty_sync : IsSync (Ty.the_field).row
 ty_sync = search (sendable, crosses, ty_knot.crosses) depth 20
 
@@ -98,10 +90,4 @@ function_sync = search (parts_sync, block_sync) depth 20
 pub module_sync : IsSync (Module.the_field).row
 module_sync = search (parts_sync, function_sync) depth 20
 
-pub checked_sync : IsSync Checked.the_row
-checked_sync = search (parts_sync, module_sync) depth 20
-
-pub out_module_sync : IsSync OutModule.the_row
-out_module_sync = search (parts_sync, module_sync) depth 20
-
-pub ruleset module_crosses = (kind_send, kind_sync, inst_send, inst_sync, block_send, block_sync, function_send, function_sync, module_send, module_sync, checked_send, checked_sync, out_module_send, out_module_sync)
+pub ruleset module_crosses = (kind_send, kind_sync, inst_send, inst_sync, block_send, block_sync, function_send, function_sync, module_send, module_sync)

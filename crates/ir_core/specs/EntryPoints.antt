@@ -3,6 +3,8 @@ use Rattle.std.specs.Prelude.{List, ℕ, [], ◌∷◌, map, codes, Bool, true, 
 use Rattle.std.specs.Str.{bytes_eq}
 use Rattle.ir_core.specs.declared.types.Ty.{Ty}
 use Rattle.ir_core.specs.declared.types.Ty.TheVariants.{Void, Int, Ptr}
+use Rattle.ir_core.specs.declared.types.Scalar.{Scalar}
+use Rattle.ir_core.specs.declared.types.Scalar.TheVariants.{Int as IntScalar, Ptr as PtrScalar}
 use Rattle.ir_core.specs.declared.rtl.Rtl.{Rtl}
 use Rattle.ir_core.specs.declared.rtl.Rtl.TheVariants.{TargetInit, TargetDeinit, Parallel, AllocShared, FreeShared, GetSharedVariables, Barrier, GlobalThreadNum, ThreadNum, NumThreads, Level, ParallelLevel, InParallel, IsSpmdExecMode, ForStaticInit, ForStaticFini, Print, KernelParallel, KernelEndParallel, SpmdBarrier, GenericBarrier, HardwareThreadId}
 
@@ -11,6 +13,11 @@ target_init = codes "__kmpc_target_init"
 
 abbrev pub target_deinit : List ℕ
 target_deinit = codes "__kmpc_target_deinit"
+
+-- the type of a register
+abbrev pub scalar_type : Scalar → Ty
+scalar_type (IntScalar width) = Int width
+scalar_type PtrScalar = Ptr
 
 -- how an entry point is declared, and whether the optimiser alone writes it
 pub record EntryPoint : Type 0 where

@@ -1,7 +1,7 @@
 -- The language: which tokens spell which module (LLVM Language Reference, "High Level Structure"), for the integer subset.
 use Rattle.std.specs.Prelude.{if◌then◌else◌, ◌≡◌, ℕ, zero, suc, List, [], ◌∷◌, ◌++◌, length, take, drop, map, codes, decimal, ◌⊎◌, Bool, true, false, not}
 use Rattle.std.specs.Prelude.{Some as Present, None as Absent, Option}
-use Rattle.std.specs.List.{filter, flat_map, list_all}
+use Rattle.std.specs.List.{filter, flat_map}
 use Rattle.std.specs.Str.{bytes_eq}
 use Rattle.ir_core.specs.declared.types.Ty.{Ty}
 use Rattle.ir_core.specs.declared.instructions.Value.TheVariants.{Int as IntValue}
@@ -15,7 +15,7 @@ use Rattle.ir_core.specs.declared.module.Function.{Function}
 use Rattle.ir_core.specs.declared.module.Param.{Param}
 use Rattle.ir_core.specs.declared.module.Block.{Block}
 use Rattle.ir_core.specs.Tokens.{Lexeme, Token, CText, Passive, Word, Lexes, lexemes, text_limit}
-use Rattle.ir_core.specs.Bytes.{between}
+use Rattle.ir_core.specs.Text.{is_digits}
 use Rattle.ir_core.specs.Escapes.{quoted_bytes}
 use Rattle.ir_core.specs.Spell.{◌>>=◌, Spell, done, one, any, many, IsWordIn, IsWord, word, mark, with_line, list_to}
 use Rattle.ir_core.specs.Forms.{maybe, token, IsLocal, IsGlobal, IsItemName, IsLength, nesting_limit, type_, result_type, IsOneOf, attributes, IsValue, next}
@@ -23,12 +23,8 @@ use Rattle.ir_core.specs.Instructions.{next_alignment, attachment, IsText, conve
 
 -- ---- numbers as names: what has none takes the count of the names before it in its function that are numbers
 
-abbrev pub is_numeral : List ℕ → Bool
-is_numeral [] = false
-is_numeral (c ∷ cs) = list_all (between 48 57) (c ∷ cs)
-
 abbrev pub next_number : List (List ℕ) → List ℕ
-next_number names = decimal (length (filter is_numeral names))
+next_number names = decimal (length (filter is_digits names))
 
 abbrev pub name_or : Option (List ℕ) → List ℕ → List ℕ
 name_or (Present x) number = x

@@ -4,7 +4,6 @@ pub mod Scan
 pub mod Numbers
 pub mod Escapes
 pub mod Spell
-pub mod Grammar
 pub mod Forms
 pub mod Instructions
 pub mod Language

@@ -1,5 +1,4 @@
 //! The data of a module may go from one thread to another, and be read by several at once.
-use crate::checked::{Checked, OutModule};
 use crate::instructions::{Inst, Kind, Typed, Value};
 use crate::module::{Block, Function, Global, Init, Module};
 use crate::name::Name;
@@ -36,9 +35,7 @@ pub fn code_crosses(kind: &Kind, inst: &Inst, block: &Block, function: &Function
     crosses(function);
 }
 
-/// A module, also one that has no refusal, and one that is optimised.
-pub fn modules_cross(module: &Module, checked: &Checked, optimised: &OutModule) {
+/// A whole module.
+pub fn modules_cross(module: &Module) {
     crosses(module);
-    crosses(checked);
-    crosses(optimised);
 }

@@ -5,12 +5,12 @@
 #![tactic(auto)]
 
 mod answers;
-mod checked;
 mod copy;
 mod crossing;
 mod instructions;
 mod module;
 mod name;
+mod place;
 mod refusal;
 mod remark;
 mod rtl;
@@ -18,7 +18,6 @@ mod types;
 mod words;
 
 pub use answers::{Or, OutOfMemory};
-pub use checked::{Changed, Checked, Marked, OutModule, Place};
 pub use copy::Copies;
 pub use crossing::{code_crosses, globals_cross, modules_cross, operands_cross, types_cross};
 pub use instructions::{
@@ -26,9 +25,10 @@ pub use instructions::{
 };
 pub use module::{Block, Element, Function, Global, Init, Module, Param, TypeDef};
 pub use name::{FileName, Name};
+pub use place::{Marked, Place};
 pub use refusal::{Construct, Refusal};
 pub use remark::{Mode, Remark};
 pub use rtl::Rtl;
 pub use sqlite_items::{Boxed, Items as List};
-pub use types::Ty;
+pub use types::{Scalar, Ty};
 pub use words::{is_digits, is_word};

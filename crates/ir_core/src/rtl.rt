@@ -1,9 +1,9 @@
 //! The entry points of the device runtime: one table, which everything else asks.
-ghost use Rattle.std.specs.Prelude.{◌≡◌, MatchOption};
-ghost use Rattle.ir_core.specs.EntryPoints.{entry_name, entry_point};
+ghost use Rattle.std.specs.Prelude.{◌≡◌, map, MatchOption};
+ghost use Rattle.ir_core.specs.EntryPoints.{entry_name, entry_point, scalar_type};
 
 use crate::name::Name;
-use crate::types::Ty;
+use crate::types::{Scalar, Ty};
 
 /// An entry point of the device runtime, after LLVM 16 (and `omp_` queries of OpenMP 5.1, "Runtime Library Routines").
 /// The last five are written by the optimiser alone.
@@ -151,6 +151,44 @@ impl Rtl {
             | Rtl::KernelEndParallel
             | Rtl::SpmdBarrier
             | Rtl::GenericBarrier => Ty::Void,
+        }
+    }
+
+    /// The types of its parameters.
+    pub fn params(self) -> &'static [Scalar]
+        ensures { map scalar_type result.now ≡ (entry_point self).params }
+    {
+        use Scalar::{Int, Ptr};
+        match self {
+            Rtl::TargetInit => &[Ptr, Int(8), Int(1)],
+            Rtl::TargetDeinit => &[Ptr, Int(8)],
+            Rtl::Parallel => &[
+                Ptr,
+                Int(32),
+                Int(32),
+                Int(32),
+                Int(32),
+                Ptr,
+                Ptr,
+                Ptr,
+                Int(64),
+            ],
+            Rtl::FreeShared => &[Ptr, Int(64)],
+            Rtl::GetSharedVariables | Rtl::GlobalThreadNum | Rtl::KernelParallel => &[Ptr],
+            Rtl::AllocShared | Rtl::Print => &[Int(64)],
+            Rtl::Barrier
+            | Rtl::ParallelLevel
+            | Rtl::ForStaticFini
+            | Rtl::SpmdBarrier
+            | Rtl::GenericBarrier => &[Ptr, Int(32)],
+            Rtl::ForStaticInit => { &[Ptr, Int(32), Int(32), Ptr, Ptr, Ptr, Ptr, Int(32), Int(32)] }
+            Rtl::ThreadNum
+            | Rtl::NumThreads
+            | Rtl::Level
+            | Rtl::InParallel
+            | Rtl::IsSpmdExecMode
+            | Rtl::KernelEndParallel
+            | Rtl::HardwareThreadId => &[],
         }
     }
 }

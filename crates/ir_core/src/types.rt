@@ -18,3 +18,10 @@ pub enum Ty {
     /// `%N`.
     Named(Name),
 }
+
+/// A type that a register can have. An integer's width is in bits.
+#[derive(Clone, Copy)]
+pub enum Scalar {
+    Int(u32),
+    Ptr,
+}

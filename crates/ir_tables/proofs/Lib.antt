@@ -8,3 +8,4 @@ pub mod Sizes
 pub mod WellFormed
 pub mod Walks
 pub mod Examples
+pub mod Crosses

@@ -2,8 +2,11 @@
 //!
 //! `laid` reckons with layouts, `table` looks the named ones up, `order` says in which order they are laid out,
 //! and `types` keeps all of it for a module's types. `names` makes tables of other names, and `indexed` keeps all for a module.
+//! `checked` has the modules that keep rules.
 #![tactic(auto)]
 
+mod checked;
+mod crossing;
 mod indexed;
 mod laid;
 mod laws;
@@ -17,6 +20,8 @@ mod table;
 mod tests;
 mod types;
 
+pub use checked::{Changed, Checked, OutModule};
+pub use crossing::checked_cross;
 pub use indexed::Indexed;
 pub use laws::{
     array_of_structs, byte_and_word, contains_itself, field_of_third, first_item,

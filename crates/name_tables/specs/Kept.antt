@@ -7,8 +7,8 @@ use Rattle.ir_core.specs.declared.types.Ty.TheVariants.{Int as IntTy, Ptr as Ptr
 use Rattle.ir_core.specs.declared.module.Block.{Block}
 use Rattle.ir_core.specs.FirstForm.{is_width, is_int_of, is_ptr}
 use Rattle.ir_core.specs.Given.{Local as LocalGiven, Register as RegisterGiven, Label as LabelGiven, LocalName, inst_names}
-use Rattle.name_tables.specs.declared.scalars.Scalar.{Scalar}
-use Rattle.name_tables.specs.declared.scalars.Scalar.TheVariants.{Int, Ptr}
+use Rattle.ir_core.specs.declared.types.Scalar.{Scalar}
+use Rattle.ir_core.specs.declared.types.Scalar.TheVariants.{Int, Ptr}
 use Rattle.name_tables.specs.declared.locals.Local.{Local}
 use Rattle.name_tables.specs.declared.locals.Local.TheVariants.{Register, Label}
 

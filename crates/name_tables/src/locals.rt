@@ -5,9 +5,9 @@ ghost use Rattle.ir_core.specs.Given.{param_name, inst_names, block_names, local
 ghost use Rattle.ir_tables.specs.Names.{HasPlaces};
 ghost use Rattle.name_tables.specs.Kept.{all_seen, all_kept, local_kept, kept_name, kept_local, one_block};
 
-use crate::scalars::{Scalar, result_scalar, scalar_of};
+use crate::scalars::{result_scalar, scalar_of};
 use crate::tables::{Tables, place};
-use ir_core::{Block, Function, Inst, List, Name, OutOfMemory, Param};
+use ir_core::{Block, Function, Inst, List, Name, OutOfMemory, Param, Scalar};
 use ir_tables::{NameTable, table_of};
 use std::alloc::Global;
 use std::marker::Model;

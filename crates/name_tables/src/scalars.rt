@@ -4,14 +4,7 @@ ghost use Rattle.ir_core.specs.FirstForm.{is_width, is_scalar, is_int_of, is_int
 ghost use Rattle.ir_core.specs.Given.{result_type};
 ghost use Rattle.name_tables.specs.Kept.{scalar_of, is_of, is_register_type};
 
-use ir_core::{Kind, Ty};
-
-/// A type that a register can have. An integer's width is in bits.
-#[derive(Clone, Copy)]
-pub enum Scalar {
-    Int(u32),
-    Ptr,
-}
+use ir_core::{Kind, Scalar, Ty};
 
 /// The scalar type that a type is; none for any other.
 pub fn scalar_of(ty: &Ty) -> Option<Scalar>

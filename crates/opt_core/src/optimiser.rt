@@ -6,7 +6,8 @@ ghost use Rattle.opt_core.specs.Optimised.{IsOptimisedModule};
 
 use crate::machine_off::machine_off;
 use crate::remarks::{init_lines, modes_at, remarks_at};
-use ir_core::{Checked, List, Mode, OutModule, OutOfMemory, Remark};
+use ir_core::{List, Mode, OutOfMemory, Remark};
+use ir_tables::{Checked, OutModule};
 use std::alloc::Global;
 
 /// The optimised module, how each of its kernels runs in the order of the text, and the remarks in their order.

@@ -8,9 +8,10 @@ ghost use Rattle.opt_core.specs.Answer.{Accepts, IsNotAccepted, IsTextReply};
 use crate::optimiser::optimise;
 use crate::remarks::print_remarks;
 use ir_check::check;
-use ir_core::{Checked, List, Or, OutOfMemory, Refusal};
+use ir_core::{List, Or, OutOfMemory, Refusal};
 use ir_print::print_module;
 use ir_read::read_module;
+use ir_tables::Checked;
 use std::alloc::Global;
 
 /// A status, and what is to be written with it.

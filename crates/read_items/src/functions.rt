@@ -1,8 +1,8 @@
 //! Functions.
 ghost use Rattle.std.specs.Prelude.{◌≡◌, ◌+◌, ◌<◌, ◌∷◌, [], ◌^◌, decimal, length, IfOk, MatchOption};
-ghost use Rattle.std.specs.List.{filter, list_all};
-ghost use Rattle.ir_core.specs.Bytes.{between};
-ghost use Rattle.ir_core.specs.Language.{is_numeral, name_or, params_behind, next_number};
+ghost use Rattle.std.specs.List.{filter};
+ghost use Rattle.ir_core.specs.Language.{name_or, params_behind, next_number};
+ghost use Rattle.ir_core.specs.Text.{is_digits};
 ghost use Rattle.read_forms.specs.Read.{Gives, GivesAs, head};
 ghost use Rattle.read_body.specs.Body.{label_goes};
 ghost use Rattle.read_items.specs.Seen.{heading_seen};
@@ -11,7 +11,7 @@ ghost use Rattle.read_items.specs.Numbered.{numerals, names_of};
 
 use crate::function_words::read_groups;
 use crate::words::read_kept_words;
-use ir_core::{Block, Copies, Function, List, Name, OutOfMemory, Param, Ty};
+use ir_core::{Block, Copies, Function, List, Name, OutOfMemory, Param, Ty, is_digits};
 use itoa::Buffer;
 use read_body::{Blocks, read_block, read_body_of};
 use read_forms::{
@@ -84,32 +84,6 @@ impl Part for ParamTypes {
     }
 }
 
-fn is_digit(byte: u8) -> bool
-    ensures { result ≡ between 48 57 byte }
-{
-    matches!(byte, b'0'..=b'9')
-}
-
-fn all_digits(bytes: &[u8]) -> bool
-    ensures { result ≡ list_all (between 48 57) bytes.now }
-{
-    for byte in bytes {
-        if !is_digit(*byte) {
-            return false;
-        }
-    }
-    true
-}
-
-fn is_numeral(name: &[u8]) -> bool
-    ensures { result ≡ is_numeral name.now }
-{
-    match name {
-        [_, ..] => all_digits(name),
-        [] => false,
-    }
-}
-
 fn decimal_name(alloc: Global, number: usize) -> Result<Name, AllocError>
     ensures { IfOk result (λ name. name ≡ decimal number) }
 {
@@ -130,9 +104,9 @@ fn name_or(alloc: Global, given: &Option<Name>, number: usize) -> Result<Name, A
 /// The number behind those that are taken, where this name is taken too.
 fn number_behind(number: usize, name: &[u8]) -> usize
     requires { number < 2 ^ 63 }
-    ensures { result ≡ number + length (filter is_numeral (name.now ∷ [])) }
+    ensures { result ≡ number + length (filter is_digits (name.now ∷ [])) }
 {
-    if is_numeral(name) { number + 1 } else { number }
+    if is_digits(name) { number + 1 } else { number }
 }
 
 /// Parameters of which those without a name are numbered, and the next number.

@@ -12,7 +12,6 @@ use Rattle.ir_core.specs.declared.module.Module.{Module}
 use Rattle.ir_core.specs.declared.module.Function.{Function}
 use Rattle.ir_core.specs.declared.module.Block.{Block}
 use Rattle.ir_core.specs.EntryPoints.{target_init, target_deinit}
-use Rattle.ir_core.specs.Grammar.{of_functions}
 use Rattle.mem_model.specs.declared.launch.Launch.{Launch}
 use Rattle.mem_model.specs.declared.launch.Arg.TheVariants.{Buffer}
 use Rattle.mem_model.specs.Launching.{Outcome}
@@ -60,7 +59,7 @@ kernel flag = record { name = codes "k"; words = []; ret = Void; params = record
 
 -- the module, whose init call has this flag
 abbrev pub example : Bool → Module
-example flag = of_functions (kernel flag ∷ [])
+example flag = record { prelude = []; types = []; globals = []; functions = kernel flag ∷ []; tail = [] }
 
 -- one region thread, and a buffer of four zero bytes
 abbrev pub launch : Launch

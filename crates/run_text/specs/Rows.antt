@@ -1,6 +1,6 @@
 -- Short texts, and what they spell.
 use Rattle.std.specs.Prelude.{◌≡◌, ℕ, List, [], ◌∷◌, codes, Ok, Err}
-use Rattle.ir_core.specs.Grammar.{of_functions}
+use Rattle.ir_core.specs.declared.module.Module.{Module}
 use Rattle.mem_model.specs.declared.memory.BlockName.TheVariants.{Arg}
 use Rattle.mem_model.specs.declared.memory.Byte.TheVariants.{Num}
 use Rattle.team_model.specs.declared.Pair.{Pair}
@@ -13,6 +13,9 @@ use Rattle.run_text.specs.ReportText.{report_text}
 
 abbrev pub pair : ℕ → ℕ → Pair
 pair thread count = record { thread = thread; count = count }
+
+abbrev pub no_items : Module
+no_items = record { prelude = []; types = []; globals = []; functions = []; tail = [] }
 
 abbrev pub two_pairs : List Pair
 two_pairs = pair 1 6 ∷ pair 0 4 ∷ []
@@ -35,4 +38,4 @@ abbrev pub report : Report
 report = record { mode = Empty; threads = 1; end = Ended; prints = []; memory = record { name = Arg 0; bytes = Num 7 ∷ Num 0 ∷ Num 0 ∷ Num 0 ∷ [] } ∷ []; schedule = two_pairs }
 
 abbrev pub PrintsReport : Type 0
-PrintsReport = report_text (of_functions []) report ≡ codes "mode none\nend ended\nmemory 0 07000000\nschedule 2\n1 6\n0 4\n"
+PrintsReport = report_text no_items report ≡ codes "mode none\nend ended\nmemory 0 07000000\nschedule 2\n1 6\n0 4\n"

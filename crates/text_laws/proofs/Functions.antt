@@ -6,7 +6,8 @@ use Rattle.ir_core.specs.declared.module.Param.{Param}
 use Rattle.ir_core.specs.Tokens.{Mark}
 use Rattle.ir_core.specs.Spell.{done, any, list_to}
 use Rattle.ir_core.specs.Forms.{maybe, attribute_form, type_}
-use Rattle.ir_core.specs.Language.{is_numeral, next_number, name_or, Unnumbered, params_behind, some_local, param, Heading, heading}
+use Rattle.ir_core.specs.Language.{next_number, name_or, Unnumbered, params_behind, some_local, param, Heading, heading}
+use Rattle.ir_core.specs.Text.{is_digits}
 use Rattle.ir_core.specs.Text.{type_text, local_text, global_name_text, spaced_words, comma_list, all_led, param_text}
 use Rattle.text_laws.proofs.Rows.{Bare, bare}
 use Rattle.text_laws.proofs.Joined.{Gives, Closes, gives_closes, closes_gives, closes_then, closes_space, closes_mark, gives_then}
@@ -67,7 +68,7 @@ AllParams [] = Unit {0}
 AllParams (p ∷ ps) = ParamGood p × AllParams ps
 
 number_bytes : (names : List (List ℕ)) → AreBytes (next_number names)
-number_bytes names = decimal_bytes (length (filter is_numeral names))
+number_bytes names = decimal_bytes (length (filter is_digits names))
 
 name_bytes : (names : List (List ℕ)) (o : Option (List ℕ)) → (o ≡ None) ⊎ Good some_local o → AreBytes (name_or o (next_number names))
 name_bytes names o (inl e) = subst (λ x. AreBytes (name_or x (next_number names))) (sym e) (number_bytes names)

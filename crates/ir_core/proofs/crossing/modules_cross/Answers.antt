@@ -7,15 +7,3 @@ crosses-requires-send-T c κs = search (module_crosses, sendable)
 
 pub crosses-requires-sync-T : goal.crosses-requires-sync-T
 crosses-requires-sync-T c κs = search (module_crosses, sendable)
-
-pub crosses-requires-2-send-T : goal.crosses-requires-2-send-T
-crosses-requires-2-send-T c κs = search (module_crosses, sendable)
-
-pub crosses-requires-2-sync-T : goal.crosses-requires-2-sync-T
-crosses-requires-2-sync-T c κs = search (module_crosses, sendable)
-
-pub crosses-requires-3-send-T : goal.crosses-requires-3-send-T
-crosses-requires-3-send-T c κs = search (module_crosses, sendable)
-
-pub crosses-requires-3-sync-T : goal.crosses-requires-3-sync-T
-crosses-requires-3-sync-T c κs = search (module_crosses, sendable)

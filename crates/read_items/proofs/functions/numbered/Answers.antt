@@ -1,6 +1,6 @@
 use Rattle.std.proofs.Common.{◌≡◌, ◌+◌, ◌<◌, ◌∷◌, [], length, arith}
 use Rattle.std.specs.List.{filter}
-use Rattle.ir_core.specs.Language.{is_numeral}
+use Rattle.ir_core.specs.Text.{is_digits}
 use Rattle.read_items.proofs.Numbers.{behind_more, one_numeral, numerals_push}
 use Rattle.read_items.proofs.functions.numbered.Goals as goal
 
@@ -17,5 +17,5 @@ loop-at-preserved c =
     let next = c.number_behind-next.ensures in
     let count = numerals_push c.loop-at.params (record { name = c.in_ok-name.name; ty = c.in_ok-ty.ty }) in
     let one = one_numeral c.in_ok-name.name in
-    let behind : c.number_behind-next.result ≡ c.loop-at.next + length (filter is_numeral (c.in_ok-name.name ∷ [])) = cc (next, slice) in
+    let behind : c.number_behind-next.result ≡ c.loop-at.next + length (filter is_digits (c.in_ok-name.name ∷ [])) = cc (next, slice) in
     (cc (more, pushed, name, ty, item, so_far.0, so_far.1), cc (behind, count, pushed, so_far.1), omega arith)

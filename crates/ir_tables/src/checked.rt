@@ -2,19 +2,8 @@
 ghost use Rattle.std.specs.Prelude.{◌≡◌};
 ghost use Rattle.ir_core.specs.FirstForm.{HasFirstForm, HasOutForm};
 
-use crate::module::Module;
-use crate::remark::Remark;
-use sqlite_items::Items as List;
+use ir_core::{List, Module, Remark};
 use std::marker::Model;
-
-/// Where an instruction stands: the places of its function in the module, of its block in the function,
-/// and of itself in the block, each counted from 0.
-#[derive(Clone, Copy)]
-pub struct Place {
-    pub function: u32,
-    pub block: u32,
-    pub index: u32,
-}
 
 /// A module that has no refusal. By now that is one with a kernel without a region, whose workers run a state machine.
 /// Contracts see the module.
@@ -103,12 +92,4 @@ impl OutModule {
 pub struct Changed {
     pub module: Checked,
     pub notes: List<Remark>,
-}
-
-/// A module, the list of its kernels in SPMD mode, and the places of their guarded instructions.
-#[derive(Drop)]
-pub struct Marked {
-    pub module: Module,
-    pub kernels: List<u32>,
-    pub places: List<Place>,
 }

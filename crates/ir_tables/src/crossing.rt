@@ -1,0 +1,11 @@
+//! Modules that keep rules may go from one thread to another, and be read by several at once.
+use crate::checked::{Checked, OutModule};
+
+/// Takes only what may cross between threads.
+fn crosses<T: Send + Sync>(_: &T) {}
+
+/// A module that has no refusal, and one that is optimised.
+pub fn checked_cross(checked: &Checked, optimised: &OutModule) {
+    crosses(checked);
+    crosses(optimised);
+}
