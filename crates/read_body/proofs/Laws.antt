@@ -37,11 +37,11 @@ use Rattle.read_forms.proofs.Choices.{maybe_reads, either, either_reads, either_
 use Rattle.read_forms.proofs.TokenTests.{local_kind, label_kind, some_is, table_tests, table_only, table_found, lined_tests, contains_in, fresh, is_spelled, spells_found, not_spelled, not_in, no_word, no_word_spelled}
 use Rattle.read_forms.proofs.Lists.{mark_reads, list_reads}
 use Rattle.read_forms.proofs.Laws.{attribute_begins as attribute_begin, typed_shrinks, word_reads, local_reads, lined_local_reads, lined_label_reads, value_token_reads, word_begins, word_form, made_reads, next_reads, type_words, type_begins, type_no_word, type_in_no_mark, type_reads, result_type_reads, one_of_reads, attributes_reads, type_no_attribute, value_no_word, value_no_attribute, typed_reads, target_reads, target_first}
-use Rattle.read_body.specs.Ends.{closed, attachments_at, tail_at, call_end_at, is_group, goes_on, meta_goes, trailer_words, trailer_goes}
+use Rattle.read_ends.specs.Ends.{closed, attachments_at, tail_at, call_end_at, is_group, goes_on, meta_goes, trailer_words, trailer_goes}
 use Rattle.read_body.specs.Rows.{rows_at, rows_after}
 use Rattle.read_body.specs.Body.{true_at, flag_at, wrap_flags_at, exact_flag_at, scope_at, order_at, some_order_at, order_if_at, FlagForm, WrapFlags, ExactFlag, NoFlags, flags_at, binary_at, compare_at, cast_at, select_at, edge_at, phi_at, alloca_at, load_at, change_at, step_at, value_at_form, value_at, argument_at, callee_by, as_callee, convention_goes, call_type_at, called_at, bare_call_at, led_call_at, call_at_form, call_words, call_goes, call_at, assigned_at, stored_at, fenced_at, assignment_at, store_at, fence_at, plain_call_at, tail_call_at, plain_at_form, plain_words, plain_ahead, plain_goes, plain_at, case_at, case_goes, cases_at, switch_at, straight_at, tested_at, branch_at, return_nothing_at, return_value_at, return_at, stop_at, last_at_form, last_at, kept_at, body_at, label_goes, block_at}
-use Rattle.read_body.proofs.Closed.{opened, closed_then, closed_then_where, closed_stop_then, closed_any, closed_either, closed_made, closed_begins, ending_reads}
-use Rattle.read_body.proofs.EndLaws.{text_reads, tail_reads, end_stops, no_meta, no_comma, no_space, closed_end, closed_type, call_end_reads, read_assoc}
+use Rattle.read_ends.proofs.Closed.{opened, closed_then, closed_then_where, closed_stop_then, closed_any, closed_either, closed_made, closed_begins, ending_reads}
+use Rattle.read_ends.proofs.EndLaws.{text_reads, tail_reads, end_stops, no_meta, no_comma, no_space, closed_end, closed_type, call_end_reads, read_assoc}
 use Rattle.read_body.proofs.RowLaws.{rows_reads}
 
 -- ---- flags and orders

@@ -1,5 +1,3 @@
-pub mod Closed
-pub mod EndLaws
 pub mod Fuel
 pub mod RowLaws
 pub mod Laws

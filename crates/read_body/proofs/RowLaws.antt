@@ -13,10 +13,10 @@ use Rattle.read_forms.proofs.Readers.{ok_parts, ok_not_err, Reads, Free, Begins,
 use Rattle.read_forms.proofs.Many.{Stops}
 use Rattle.read_forms.proofs.Choices.{either}
 use Rattle.read_forms.proofs.Laws.{made_reads}
-use Rattle.read_body.specs.Ends.{closed, attachment_at, attachments_at, attached_at, meta_goes, behind_comma_at}
+use Rattle.read_ends.specs.Ends.{closed, attachment_at, attachments_at, attached_at, meta_goes, behind_comma_at}
 use Rattle.read_body.specs.Rows.{row_at, rows_in, rows_at, some_at, one_row_at}
-use Rattle.read_body.proofs.Closed.{none_attached, first_attached, attached, attached_all, by_comma, by_comma_none, opened, shut}
-use Rattle.read_body.proofs.EndLaws.{by_comma_reads}
+use Rattle.read_ends.proofs.Closed.{none_attached, first_attached, attached, attached_all, by_comma, by_comma_none, opened, shut}
+use Rattle.read_ends.proofs.EndLaws.{by_comma_reads}
 use Rattle.read_body.proofs.Fuel.{fuel_reads}
 
 -- ---- the relation, with a bound on the number of parts

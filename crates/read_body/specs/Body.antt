@@ -24,7 +24,7 @@ use Rattle.ir_core.specs.Instructions.{no_flags, predicates, orders, changes, Va
 use Rattle.read_forms.specs.Read.{Read, ◌>>=◌, then_read, done, one_at, pick, goes, many_at, maybe_at, either_at, list_at, after_comma_at, as_local, as_label, as_mark, as_word, as_table, as_one_of, all_for, form_in, at_word, with_line_of, is_local, is_label, is_mark}
 use Rattle.read_forms.specs.Operands.{as_value}
 use Rattle.read_forms.specs.Forms.{type_at, result_type_at, attributes_at, typed_at, target_at}
-use Rattle.read_body.specs.Ends.{as_text, attachments_at, tail_at, call_end_at}
+use Rattle.read_ends.specs.Ends.{as_text, attachments_at, tail_at, call_end_at}
 use Rattle.read_body.specs.Rows.{rows_after}
 
 -- ---- flags and orders

@@ -1,4 +1,3 @@
-pub mod Ends
 pub mod Rows
 pub mod Body
 pub mod Seen

@@ -2,7 +2,7 @@
 use Rattle.std.specs.Prelude.{ℕ, zero, suc, List, [], ◌∷◌, length}
 use Rattle.std.specs.Prelude.{Option, Some as Present, None as Absent}
 use Rattle.read_forms.specs.Read.{Read, ◌>>=◌, done, maybe_at, at_mark, put_all}
-use Rattle.read_body.specs.Ends.{behind_comma_at}
+use Rattle.read_ends.specs.Ends.{behind_comma_at}
 
 -- one part and those behind it
 unfoldable pub row_at : {X : Type 0} → Read X → Read (List X) → Read (List X)

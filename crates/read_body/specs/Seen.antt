@@ -1,7 +1,5 @@
 -- The forms that the code tells apart, as the grammar has them.
 use Rattle.ir_core.specs.Instructions as grammar
-use Rattle.read_body.specs.declared.ends.Trailer.{Trailer}
-use Rattle.read_body.specs.declared.ends.Trailer.TheVariants.{Group, Word}
 use Rattle.read_body.specs.declared.forms.ValueForm.{ValueForm}
 use Rattle.read_body.specs.declared.forms.ValueForm.TheVariants.{Wraps, Divides, Mixes, Compares, Casts, Selects, Phis, Allocas, Loads, Changes, Steps}
 use Rattle.read_body.specs.Body as body
@@ -13,10 +11,6 @@ use Rattle.read_body.specs.declared.forms.PlainForm.{PlainForm}
 use Rattle.read_body.specs.declared.forms.PlainForm.TheVariants.{Assigns, Stores, Fences, Calls, TailCalls}
 use Rattle.read_body.specs.declared.forms.LastForm.{LastForm}
 use Rattle.read_body.specs.declared.forms.LastForm.TheVariants.{Branches, Switches, Returns, Stops}
-
-abbrev pub trailer_seen : Trailer → grammar.TrailerForm
-trailer_seen Group = grammar.GroupTrailer
-trailer_seen Word = grammar.WordTrailer
 
 abbrev pub value_seen : ValueForm → grammar.ValueForm
 value_seen (Wraps op) = grammar.Wraps op

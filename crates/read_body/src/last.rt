@@ -4,7 +4,7 @@ ghost use Rattle.read_forms.specs.Read.{Gives};
 ghost use Rattle.read_body.specs.Body.{case_at, case_goes, cases_at, switch_at, straight_at, tested_at, branch_at, return_nothing_at, return_value_at, return_at, stop_at, last_at_form, last_at};
 ghost use Rattle.read_body.specs.Seen.{last_seen};
 
-use crate::ends::skip_attachments;
+use read_ends::skip_attachments;
 use crate::forms::{LastForm, read_last_form};
 use ir_core::{Case, Inst, Kind, List};
 use read_forms::{

@@ -3,7 +3,6 @@
 
 mod blocks;
 mod calls;
-mod ends;
 mod forms;
 mod last;
 mod plain;
@@ -15,6 +14,3 @@ mod words;
 
 pub use blocks::{Blocks, read_block, read_body_of};
 pub use calls::convention;
-pub use ends::{
-    expect_group, expect_text, plain_function_word, read_attachment, read_next_alignment,
-};

@@ -5,7 +5,7 @@ ghost use Rattle.read_forms.specs.Read.{Gives};
 ghost use Rattle.read_body.specs.Body.{assigned_at, stored_at, fenced_at, assignment_at, store_at, fence_at, plain_call_at, tail_call_at, plain_at};
 
 use crate::calls::{is_at_call, read_call, read_called};
-use crate::ends::{read_tail, skip_attachments};
+use read_ends::{read_tail, skip_attachments};
 use crate::forms::{PlainForm, plain_form_ahead};
 use crate::values::{read_flag, read_instruction_value, read_order, read_order_if};
 use crate::words::read_word_with_line;

@@ -6,7 +6,7 @@ ghost use Rattle.read_forms.specs.Widths.{HasWidth};
 ghost use Rattle.read_body.specs.Rows.{rows_after, one_row_at};
 ghost use Rattle.read_body.specs.Body.{edge_at};
 
-use crate::ends::{is_at_attachment, read_attached};
+use read_ends::{is_at_attachment, read_attached};
 use ir_core::{Edge, List, Name, Ty, Typed};
 use read_forms::{
     Ahead, Part, Reading, expect_mark, read_local, read_next, read_typed, read_value,
@@ -27,7 +27,7 @@ pub(crate) trait Row {
 }
 
 /// Behind a comma, one part more; or none, where attachments stand.
-#[tactic(auto, unfolding(crate::specs::Rows::one_row_at, crate::specs::Rows::some_at, crate::specs::Ends::behind_comma_at, read_forms::specs::Read::after_comma_at))]
+#[tactic(auto, unfolding(crate::specs::Rows::one_row_at, crate::specs::Rows::some_at, read_ends::specs::Ends::behind_comma_at, read_forms::specs::Read::after_comma_at))]
 fn read_one_row<'a, R: Row>(
     alloc: Global,
     row: &R,

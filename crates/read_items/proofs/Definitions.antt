@@ -16,7 +16,7 @@ use Rattle.read_forms.proofs.Choices.{either_begins}
 use Rattle.read_forms.proofs.TokenTests.{not_in, no_word, no_word_spelled, label_kind, apart}
 use Rattle.read_forms.proofs.Lists.{mark_reads}
 use Rattle.read_forms.proofs.Laws.{word_reads, global_reads, made_reads, type_begins, type_words, type_no_attribute, result_type_reads, attributes_reads}
-use Rattle.read_body.specs.Ends.{goes_on}
+use Rattle.read_ends.specs.Ends.{goes_on}
 use Rattle.read_body.specs.Body.{body_at, label_goes, block_at, plain_goes, plain_words}
 use Rattle.read_body.proofs.Laws.{body_reads, block_reads, block_first, blocks_reads, label_follows, other_no_end, plain_first}
 use Rattle.read_items.specs.Globals.{item_word_by, item_word_goes}

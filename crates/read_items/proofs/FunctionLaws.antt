@@ -18,8 +18,8 @@ use Rattle.read_forms.proofs.Choices.{maybe_reads}
 use Rattle.read_forms.proofs.TokenTests.{some_is, word_kind, mark_kind, contains_in, in_front, in_back, table_only, table_found, not_spelled, no_word, no_word_spelled}
 use Rattle.read_forms.proofs.Lists.{mark_reads, NotMarks, list_reads_where}
 use Rattle.read_forms.proofs.Laws.{word_reads, word_begins, local_reads, length_reads, one_of_reads, made_reads, type_reads, type_no_attribute, attributes_reads, attribute_begins, type_in_no_mark}
-use Rattle.read_body.specs.Ends.{is_meta, is_group, is_text}
-use Rattle.read_body.proofs.EndLaws.{text_reads, attachment_reads, is_meta_seen}
+use Rattle.read_ends.specs.Ends.{is_meta, is_group, is_text}
+use Rattle.read_ends.proofs.EndLaws.{text_reads, attachment_reads, is_meta_seen}
 use Rattle.read_items.specs.Functions.{dollar_by, as_dollar, comdat_name_at, text_value_at, kept_group_by, as_kept_group, plain_word_at, text_word_at, section_at, comdat_at, aligned_word_at, attached_word_at, function_word_at_form, long_words, function_words, meta_form, function_word_ahead, function_word_goes, function_word_at, groups_at, some_local_at, local_goes, param_at, param_type_at, param_goes}
 
 -- ---- single tokens

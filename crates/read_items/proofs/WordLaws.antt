@@ -15,8 +15,8 @@ use Rattle.read_forms.proofs.Many.{Stops, many_reads}
 use Rattle.read_forms.proofs.Choices.{maybe_reads, maybe_reads_where, either, either_reads, either_begins}
 use Rattle.read_forms.proofs.TokenTests.{one_of_tests, contains_in, not_in, some_is, is_spelled, not_spelled, fresh}
 use Rattle.read_forms.proofs.Laws.{word_reads, word_begins, made_reads, next_reads, alignment_reads}
-use Rattle.read_body.specs.Ends.{next_alignment_at}
-use Rattle.read_body.proofs.EndLaws.{text_reads}
+use Rattle.read_ends.specs.Ends.{next_alignment_at}
+use Rattle.read_ends.proofs.EndLaws.{text_reads}
 use Rattle.read_items.specs.Globals.{item_word_by, as_item_word, item_word_goes, kept_words_at, comdat_first_at, last_piece_at, last_pieces_at, section_first_at, tail_at}
 
 -- ---- words

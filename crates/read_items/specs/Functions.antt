@@ -10,7 +10,7 @@ use Rattle.ir_core.specs.Instructions.{plain_function_words}
 use Rattle.ir_core.specs.Language.{Unnumbered, params_behind, param_name, next_number, Heading, FunctionWordForm, KeptGroup, PlainWord, TextWord, Section, Comdat, Aligned, Attached, function_item}
 use Rattle.read_forms.specs.Read.{Read, ◌>>=◌, done, head, one_at, pick, goes, many_at, maybe_at, list_at, as_local, as_global, as_mark, as_word, as_table, as_one_of, all_for, is_word, is_local, at_mark}
 use Rattle.read_forms.specs.Forms.{as_length, type_at, result_type_at, space_goes, attribute_goes, attributes_at}
-use Rattle.read_body.specs.Ends.{as_text, attachment_at, is_meta_name, is_group, is_text}
+use Rattle.read_ends.specs.Ends.{as_text, attachment_at, is_meta_name, is_group, is_text}
 use Rattle.read_body.specs.Body.{body_at, label_goes, block_at}
 use Rattle.read_items.specs.Globals.{kept_words_at, else_at}
 

@@ -14,7 +14,7 @@ use Rattle.ir_core.specs.Instructions.{conventions}
 use Rattle.ir_core.specs.Language.{InitForm, PlainInit, SquareInit, BracesInit, item_words, constness}
 use Rattle.read_forms.specs.Read.{Read, ◌>>=◌, done, head, one_at, pick, goes, many_at, maybe_at, either_at, at_word, as_local, as_global, as_mark, as_word, as_table, as_one_of, at_mark, after_comma_at, is_mark, is_global, with_line_of}
 use Rattle.read_forms.specs.Forms.{type_at, alignment_at}
-use Rattle.read_body.specs.Ends.{as_text, next_alignment_at}
+use Rattle.read_ends.specs.Ends.{as_text, next_alignment_at}
 pub use Rattle.read_items.specs.declared.globals.Contents.{Contents}
 use Rattle.read_items.specs.Inits.{init_words, plain_by, element_at, square_at, braces_at, init_ahead, init_in_at}
 

@@ -8,7 +8,7 @@ ghost use Rattle.read_items.specs.Functions.{as_dollar, comdat_name_at, text_val
 use crate::words::{Words, front, gather, one_name};
 use ir_core::{List, Name, Or};
 use ir_lex::TokenKind;
-use read_body::{expect_text, plain_function_word, read_attachment};
+use read_ends::{expect_text, plain_function_word, read_attachment};
 use read_forms::{Ahead, Lexeme, Reading, expect_mark, expect_word, read_length};
 use std::alloc::Global;
 

@@ -10,7 +10,7 @@ use crate::inits::{init_word, read_braces, read_plain_init, read_square};
 use crate::words::{front, read_kept_words};
 use ir_core::{Global as Variable, Init, Name, Or, Ty, TypeDef};
 use ir_lex::TokenKind;
-use read_body::{expect_text, read_next_alignment};
+use read_ends::{expect_text, read_next_alignment};
 use read_forms::{
     Ahead, Reading, expect_mark, expect_word, read_alignment, read_local_with_line, read_type,
     spelled_name,

@@ -3,8 +3,8 @@ ghost use Rattle.std.specs.Prelude.{◌≡◌};
 ghost use Rattle.ir_core.specs.Instructions.{plain_function_words};
 ghost use Rattle.read_forms.specs.Read.{Gives, head, at_mark, one_at, look_up, all_for, as_one_of, after_comma_at, goes};
 ghost use Rattle.read_forms.specs.Seen.{if_some};
-ghost use Rattle.read_body.specs.Seen.{trailer_seen};
-ghost use Rattle.read_body.specs.Ends.{trailer_form_of, trailer_ahead, is_meta_name, is_group, is_text, as_meta_name, as_group, as_text, attachment_at, attachments_at, next_alignment_at, meta_goes, attached_at, aligned_at, tail_at, trailer_goes, trailer_at, trailers_at, call_end_at, behind_comma_at};
+ghost use Rattle.read_ends.specs.Seen.{trailer_seen};
+ghost use Rattle.read_ends.specs.Ends.{trailer_form_of, trailer_ahead, is_meta_name, is_group, is_text, as_meta_name, as_group, as_text, attachment_at, attachments_at, next_alignment_at, meta_goes, attached_at, aligned_at, tail_at, trailer_goes, trailer_at, trailers_at, call_end_at, behind_comma_at};
 
 use ir_core::Or;
 use ir_lex::TokenKind;
@@ -111,7 +111,7 @@ impl Repeated for NextAttachments {
 
 /// As many `, !N !n` as stand here, which are dropped.
 #[tactic(auto, unfolding(crate::specs::Ends::attachments_at))]
-pub(crate) fn skip_attachments<'a>(alloc: Global, ahead: Ahead<'a>) -> Reading<'a, ()>
+pub fn skip_attachments<'a>(alloc: Global, ahead: Ahead<'a>) -> Reading<'a, ()>
     ensures { Gives result (attachments_at ahead.entry) }
 {
     skip_many::<NextAttachments>(alloc, ahead)
@@ -130,7 +130,7 @@ pub fn read_next_alignment<'a>(ahead: Ahead<'a>) -> Reading<'a, u32>
 }
 
 /// Whether an attachment begins here.
-pub(crate) fn is_at_attachment(ahead: &Ahead) -> bool
+pub fn is_at_attachment(ahead: &Ahead) -> bool
     ensures { result ≡ meta_goes (head ahead.now) }
 {
     match ahead.first() {
@@ -141,7 +141,7 @@ pub(crate) fn is_at_attachment(ahead: &Ahead) -> bool
 
 /// An attachment and those behind it, for which the value stands.
 #[tactic(auto, unfolding(crate::specs::Ends::attached_at))]
-pub(crate) fn read_attached<'a, X: Drop>(
+pub fn read_attached<'a, X: Drop>(
     alloc: Global,
     value: X,
     ahead: Ahead<'a>,
@@ -176,7 +176,7 @@ fn read_tail_behind_comma<'a>(alloc: Global, ahead: Ahead<'a>) -> Reading<'a, u3
 
 /// `, align A` and the attachments; the alignment is 0 where there is none.
 #[tactic(auto, unfolding(crate::specs::Ends::tail_at))]
-pub(crate) fn read_tail<'a>(alloc: Global, ahead: Ahead<'a>) -> Reading<'a, u32>
+pub fn read_tail<'a>(alloc: Global, ahead: Ahead<'a>) -> Reading<'a, u32>
     ensures { Gives result (tail_at ahead.entry) }
 {
     if ahead.is_at_mark(b',') {
@@ -289,7 +289,7 @@ fn skip_trailers<'a>(alloc: Global, ahead: Ahead<'a>) -> Reading<'a, ()>
 
 /// The words and attachments behind a call, which are dropped.
 #[tactic(auto, unfolding(crate::specs::Ends::call_end_at))]
-pub(crate) fn skip_call_end<'a>(alloc: Global, ahead: Ahead<'a>) -> Reading<'a, ()>
+pub fn skip_call_end<'a>(alloc: Global, ahead: Ahead<'a>) -> Reading<'a, ()>
     ensures { Gives result (call_end_at ahead.entry) }
 {
     let (_, rest) = skip_trailers(alloc, ahead)?;

@@ -10,7 +10,7 @@ use Rattle.read_forms.specs.Read.{Read, ◌>>=◌, done, head}
 use Rattle.read_forms.proofs.Readers.{Reads, Free, Begins, done_reads, then_reads_where, reads_before, reads_as}
 use Rattle.read_forms.proofs.Many.{Stops}
 use Rattle.read_forms.proofs.Choices.{either}
-use Rattle.read_body.specs.Ends.{closed}
+use Rattle.read_ends.specs.Ends.{closed}
 
 -- no attachment, and one more
 pub none_attached : attachments [] tt

@@ -14,8 +14,8 @@ use Rattle.read_forms.proofs.Many.{Stops, shrinks_by, dropped_reads}
 use Rattle.read_forms.proofs.Choices.{maybe_reads, maybe_reads_where, either, either_reads}
 use Rattle.read_forms.proofs.TokenTests.{chosen, chosen_some, table_only, contains_in, no_word, no_word_spelled}
 use Rattle.read_forms.proofs.Laws.{word_begins, next_reads, alignment_reads, one_of_reads}
-use Rattle.read_body.specs.Ends.{closed, is_meta, is_group, is_text, is_meta_name, as_meta_name, as_group, as_text, attachment_at, attachments_at, next_alignment_at, meta_goes, attached_at, aligned_at, behind_comma_at, tail_at, trailer_words, trailer_at_form, trailer_ahead, trailer_goes, trailer_at, trailers_at, call_end_at, goes_on}
-use Rattle.read_body.proofs.Closed.{attached, by_comma, closed_then_where, closed_maybe, FirstAttached, first_attached, opened}
+use Rattle.read_ends.specs.Ends.{closed, is_meta, is_group, is_text, is_meta_name, as_meta_name, as_group, as_text, attachment_at, attachments_at, next_alignment_at, meta_goes, attached_at, aligned_at, behind_comma_at, tail_at, trailer_words, trailer_at_form, trailer_ahead, trailer_goes, trailer_at, trailers_at, call_end_at, goes_on}
+use Rattle.read_ends.proofs.Closed.{attached, by_comma, closed_then_where, closed_maybe, FirstAttached, first_attached, opened}
 
 -- ---- single tokens
 

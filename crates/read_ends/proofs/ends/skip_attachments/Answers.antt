@@ -1,5 +1,5 @@
-use Rattle.read_body.proofs.EndLaws.{next_attachment_shrinks}
-use Rattle.read_body.proofs.ends.skip_attachments.Goals as goal
+use Rattle.read_ends.proofs.EndLaws.{next_attachment_shrinks}
+use Rattle.read_ends.proofs.ends.skip_attachments.Goals as goal
 
 pub skip_many-requires-clause-shrinks : goal.skip_many-requires-clause-shrinks
 skip_many-requires-clause-shrinks c = next_attachment_shrinks
