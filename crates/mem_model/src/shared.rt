@@ -1,8 +1,8 @@
 //! The memory that threads share: blocks, found by name.
-ghost use Rattle.std.specs.Prelude.{◌≡◌, ℕ, ◌<◌, ◌≤◌, Some, None, true, false, [], ◌∷◌, length, IfOk, IsSome, is_some};
+ghost use Rattle.std.specs.Prelude.{◌≡◌, ℕ, ◌<◌, ◌≤◌, Some, None, true, false, [], ◌∷◌, length, IfOk, IsSome, is_some, MatchResult};
 ghost use Rattle.std.specs.FinMap as fin;
 ghost use Rattle.mem_model.specs.Words as words;
-ghost use Rattle.mem_model.specs.Memory.{no_blocks, access, Load, Store, Allocate, Release, header_size, bytes_at};
+ghost use Rattle.mem_model.specs.Memory.{no_blocks, with_block, access, Load, Store, Allocate, Release, header_size, bytes_at};
 ghost use Rattle.mem_model.specs.Kept.{header_of, word_at, IsOverwritten, IsWritten, IsReleased};
 ghost use Rattle.mem_model.specs.Answers.{IsCell, IsOf, IsInside, IsDone, IsMade, with_byte};
 ghost use Rattle.mem_model.specs.Thread.{given_of};
@@ -128,6 +128,31 @@ impl Memory {
         self.blocks.contains_key(&name)
     }
 
+    /// Puts a new block of these bytes.
+    ///
+    /// # Errors
+    ///
+    /// For want of memory, and then nothing changes.
+    pub fn put_block(
+        &mut self,
+        name: BlockName,
+        bytes: Vec<Byte>,
+        constant: bool,
+    ) -> Result<(), OutOfMemory>
+        requires new { fin.get self.old.blocks name ≡ None }
+        ensures { MatchResult result (λ _. self.new ≡ with_block self.old name constant bytes.items) (λ _. self.new ≡ self.old) }
+    {
+        let block = Block {
+            bytes,
+            constant,
+            released: false,
+        };
+        match self.blocks.insert(name, block) {
+            Ok(_) => Ok(()),
+            Err(_) => Err(OutOfMemory),
+        }
+    }
+
     /// Makes a block of so many zero bytes.
     ///
     /// # Errors
@@ -141,15 +166,8 @@ impl Memory {
             return Err(Or::Refused(Trap::TooLarge));
         }
         let bytes = vec![in self.alloc; Byte::Num(0); len as usize]?;
-        let block = Block {
-            bytes,
-            constant,
-            released: false,
-        };
-        match self.blocks.insert(name, block) {
-            Ok(_) => Ok(()),
-            Err(_) => Err(Or::Memory),
-        }
+        self.put_block(name, bytes, constant)?;
+        Ok(())
     }
 
     /// Releases a heap block, of which the pointer is the beginning and `len` the size in bytes.
