@@ -4,8 +4,8 @@ use Rattle.std.specs.Str.{bytes_eq}
 use Rattle.std.specs.declared.string.String.{String}
 use Rattle.std.specs.declared.alloc.Global.{Global}
 use Rattle.opt_core.specs.Answer.{path_of, texts}
-use Rattle.opt_core.specs.Place.{IsServed}
-use Rattle.opt_core.proofs.Kept.{second_is_served}
+use Rattle.io_edge.specs.Place.{IsServed}
+use Rattle.io_edge.proofs.Kept.{second_is_served}
 
 by_command : (b : Bool) (first second : String Global) → IfSome (if b then Some (string_bytes second) else None) (λ path. IsServed (first ∷ second ∷ []) path)
 by_command true first second = second_is_served first second

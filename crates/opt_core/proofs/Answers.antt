@@ -16,7 +16,7 @@ use Rattle.ir_read.specs.Refused.{IsReadRefusal}
 use Rattle.ir_read.proofs.Texts.{one_text, text_refused}
 use Rattle.ir_check.specs.Refusal.{IsCheckRefusal}
 use Rattle.opt_core.specs.declared.reply.Reply.{Reply}
-use Rattle.opt_core.specs.Outside.{Grows, GrowsByFront}
+use Rattle.io_edge.specs.Outside.{Grows, GrowsByFront}
 use Rattle.opt_core.specs.Answer.{Accepts, IsNotAccepted, IsTextReply, IsFailure, HasRisen, IsWritten}
 
 pub not_read : (text : List ℕ) (e : Or Refusal) → IsReadRefusal text e → IsNotAccepted text e

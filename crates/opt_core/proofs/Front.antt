@@ -8,7 +8,7 @@ use Rattle.ir_core.specs.declared.refusal.Refusal.{Refusal}
 use Rattle.ir_core.specs.Spell.{IsFirstRefused}
 use Rattle.ir_core.specs.Language.{module_to_end, Reads}
 use Rattle.ir_core.specs.TextRefusals.{IsTextRefusal, IsRefusalAt}
-use Rattle.opt_core.specs.Outside.{read_limit}
+use Rattle.io_edge.specs.Outside.{read_limit}
 use Rattle.opt_core.specs.Answer.{Accepts, IsRefusal, IsTextReply, IsFileReply}
 
 limits : read_limit ≡ text_limit + 1

@@ -1,5 +1,2 @@
-pub mod Bytes
-pub mod Kept
-pub mod Told
 pub mod Answers
 pub mod Front

@@ -15,7 +15,7 @@ use Rattle.ir_core.specs.Text.{Text}
 use Rattle.ir_core.specs.Notes.{refusal_text, remarks_text}
 use Rattle.ir_core.specs.Refusals.{not_built}
 use Rattle.refine_laws.specs.Refines.{RefinesSource}
-use Rattle.opt_core.specs.Outside.{Rose, Grows, GrowsByFront}
+use Rattle.io_edge.specs.Outside.{Rose, Grows, GrowsByFront}
 
 -- ---- words
 

@@ -1,5 +1,2 @@
-pub mod Files
-pub mod Outside
-pub mod Place
 pub mod Answer
 pub mod Optimised

@@ -1,11 +1,10 @@
 //! The top call: what the program answers to its words, over the inputs and into the sinks.
 ghost use Rattle.std.specs.Prelude.{◌≡◌, ◌≢◌, ◌⊎◌, codes, IfOk, ◌<◌, IfErr, OnOk, OnErr, IfSome, MatchOption, None, Some};
-ghost use Rattle.opt_core.specs.Outside.{Rose, Grows, GrowsByFront};
+ghost use Rattle.io_edge.specs.Outside.{Rose, Grows, GrowsByFront};
 ghost use Rattle.opt_core.specs.Answer.{texts, path_of, IsBadWords, IsAnswer, IsTold, HasRisen, IsNotTaken};
 
-use crate::outside::{Inputs, Sink, SinkFailed};
 use crate::reply::{Reply, reply_to_text};
-use crate::transfer::{ReadFault, read_file, write_all};
+use io_edge::{Inputs, ReadFault, Sink, SinkFailed, read_file, write_all};
 use ir_core::{List, OutOfMemory};
 use std::alloc::Global;
 

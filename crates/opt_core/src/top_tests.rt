@@ -1,7 +1,7 @@
 //! The top call over files in memory.
 ghost use Rattle.std.specs.Prelude.{◌≡◌, Contains, IfOk, Some};
 ghost use Rattle.opt_core.specs.Answer.{path_of, texts};
-ghost use Rattle.opt_core.specs.Files.{names_of};
+ghost use Rattle.io_edge.specs.Files.{names_of};
 
 use crate::memory::{SureInputs, SureSink};
 use crate::memory_tests::one_file;

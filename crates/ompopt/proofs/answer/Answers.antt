@@ -1,6 +1,6 @@
 use Rattle.std.proofs.Common.{sym, subst, IfSome}
 use Rattle.opt_core.specs.Answer.{path_of, texts}
-use Rattle.opt_core.specs.Place.{IsServed}
+use Rattle.io_edge.specs.Place.{IsServed}
 use Rattle.ompopt.proofs.Served.{path_is_served}
 use Rattle.ompopt.proofs.answer.Goals as goal
 

@@ -1,5 +1,5 @@
 use Rattle.std.proofs.Common.{◌≡◌, List, ℕ, Option, Some, IfSome, take, sym, subst}
-use Rattle.opt_core.specs.Outside.{read_limit}
+use Rattle.io_edge.specs.Outside.{read_limit}
 use Rattle.opt_core.specs.Answer.{path_of, texts, IsAnswer, IsTextReply}
 use Rattle.opt_core.proofs.Front.{file_reply}
 use Rattle.opt_core.proofs.top.reply_to_words.Goals as goal
