@@ -5,3 +5,4 @@ pub mod Moved
 pub mod Nexts
 pub mod Results
 pub mod Returned
+pub mod Few

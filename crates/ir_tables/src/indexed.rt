@@ -1,12 +1,14 @@
 //! A module with its names in tables.
-ghost use Rattle.std.specs.Prelude.{◌≡◌, min, length, map, IfOk};
-ghost use Rattle.ir_core.specs.Layout.{WellFormed, Size, Offset};
+ghost use Rattle.std.specs.Prelude.{◌≡◌, ◌<◌, min, length, map, IfOk};
+ghost use Rattle.ir_core.specs.Layout.{WellFormed, Size, Offset, the_layout};
 ghost use Rattle.ir_core.specs.Places.{place_in, register_names, labels, function_place, global_place};
+ghost use Rattle.ir_tables.specs.Laid.{Keeps};
 ghost use Rattle.ir_tables.specs.Names.{type_name};
 ghost use Rattle.ir_tables.specs.Named.{Serves};
 ghost use Rattle.ir_tables.specs.Walk.{StandsIn, WalksInto};
 ghost use Rattle.ir_tables.specs.Indexed.{CanBeCounted};
 
+use crate::laid::Laid;
 use crate::named::{Named, laid_of};
 use crate::names::place;
 use crate::offsets::{Walk, walk_into};
@@ -156,14 +158,29 @@ impl Indexed {
         }
     }
 
-    /// How many bytes a value of the type takes; 2^64-1 for more than that. A type that isn't well formed has any size.
-    pub fn size_of(&self, ty: &Ty) -> u64
-        ensures { WellFormed self.now.types ty.now → result ≡ min (Size self.now.types ty.now) 18446744073709551615 }
+    /// The layout of a type; that of a struct without fields where it has none.
+    fn laid(&self, ty: &Ty) -> Laid
+        ensures { Keeps result (the_layout self.now.types ty.now) }
     {
         match laid_of(self.named(), ty) {
-            None => 0,
-            Some(laid) => laid.size,
+            None => Laid::empty(),
+            Some(laid) => laid,
         }
+    }
+
+    /// How many bytes a value of the type takes; 2^64-1 for more than that, and 0 for a type that isn't well formed.
+    pub fn size_of(&self, ty: &Ty) -> u64
+        ensures { result ≡ min (Size self.now.types ty.now) 18446744073709551615 }
+    {
+        self.laid(ty).size
+    }
+
+    /// The number of bytes at whose multiples a value of the type stands; 1 for a type that isn't well formed.
+    pub fn align_of(&self, ty: &Ty) -> u64
+        ensures value { result ≡ (the_layout self.now.types ty.now).align }
+        ensures positive { 0 < result }
+    {
+        self.laid(ty).align.bytes()
     }
 
     /// One index further into a type, modulo 2^64: from `Walk::new` on, the indices of a getelementptr give its offset without a slice

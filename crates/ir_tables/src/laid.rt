@@ -14,7 +14,7 @@ pub(crate) enum Align {
 
 impl Align {
     /// In bytes.
-    fn bytes(self) -> u64
+    pub(crate) fn bytes(self) -> u64
         ensures value { result ≡ align_bytes self }
         ensures positive { 0 < result }
     {
