@@ -1,5 +1,5 @@
 -- Names of blocks that aren't used yet stay unused.
-use Rattle.std.proofs.Common.{◌≡◌, ℕ, ◌+◌, ◌≤◌, List, [], ◌∷◌, Bool, None, ap, ◌∙◌, arith}
+use Rattle.std.proofs.Common.{◌≡◌, ℕ, ◌+◌, ◌≤◌, List, [], ◌∷◌, Bool, None, ◌∙◌, arith}
 use Rattle.std.specs.FinMap as fin
 use Rattle.std.specs.FinMap.{get-empty}
 use Rattle.mem_model.specs.declared.launch.Arg.{Arg}
@@ -7,8 +7,9 @@ use Rattle.mem_model.specs.declared.launch.Arg.TheVariants.{Buffer, Int, Null}
 use Rattle.mem_model.specs.declared.memory.BlockName.{BlockName}
 use Rattle.mem_model.specs.declared.memory.BlockName.TheVariants.{Arg as ArgBlock, Global as GlobalBlock}
 use Rattle.mem_model.specs.declared.memory.Byte.{Byte}
+use Rattle.mem_model.specs.Blocks.{block_cmp}
 use Rattle.mem_model.specs.Memory.{Memory, no_blocks, with_block}
-use Rattle.mem_model.specs.Launching.{with_buffers}
+use Rattle.mem_model.specs.Launching.{with_buffer, with_buffers}
 use Rattle.mem_model.proofs.BlockLaws.{header_apart}
 use Rattle.first_memory.specs.Blocks.{HasNoArgs, HasNoGlobals}
 
@@ -33,9 +34,9 @@ globals_after m i bytes constant fresh n l = apart m (GlobalBlock i) (GlobalBloc
 -- buffers are no globals
 pub buffers_keep : (m : Memory) (i : ℕ) (args : List Arg) → HasNoGlobals m 0 → HasNoGlobals (with_buffers i args m) 0
 buffers_keep m i [] fresh = fresh
-buffers_keep m i (Buffer bytes ∷ args) fresh = buffers_keep _ (i + 1) args (λ n l. apart m (ArgBlock i) (GlobalBlock n) _ _ (λ e. let f : ⊥ = cc in f) (fresh n l))
+buffers_keep m i (Buffer bytes ∷ args) fresh = buffers_keep (with_buffer i (Buffer bytes) m) (i + 1) args (λ n l. apart m (ArgBlock i) (GlobalBlock n) _ _ (λ e. let f : ⊥ = cc in f) (fresh n l))
 buffers_keep m i (Int k ∷ args) fresh = buffers_keep m (i + 1) args fresh
 buffers_keep m i (Null ∷ args) fresh = buffers_keep m (i + 1) args fresh
 
 pub none_yet : (name : BlockName) → fin.get no_blocks.blocks name ≡ None
-none_yet name = get-empty name
+none_yet name = get-empty block_cmp name

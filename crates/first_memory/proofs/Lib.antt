@@ -1,3 +1,4 @@
 pub mod Values
 pub mod Fresh
 pub mod Pads
+pub mod Puts

@@ -1,5 +1,5 @@
 -- Bytes that are padded behind others.
-use Rattle.std.proofs.Common.{◌≡◌, ℕ, ◌+◌, ◌-◌, List, ◌++◌, length, replicate, sym, ap, ◌∙◌, append_assoc, arith, length-append}
+use Rattle.std.proofs.Common.{◌≡◌, ℕ, ◌-◌, List, ◌++◌, length, replicate, ap, ◌∙◌, append_assoc, arith, length-append}
 use Rattle.ir_core.specs.Layout.{aligned}
 use Rattle.mem_model.specs.declared.memory.Byte.{Byte}
 use Rattle.mem_model.specs.declared.memory.Byte.TheVariants.{Num}

@@ -6,7 +6,6 @@ ghost use Rattle.mem_model.specs.declared.memory.Byte.TheVariants.{Num};
 ghost use Rattle.mem_model.specs.Words.{cell_size, number_bytes, parts_from};
 ghost use Rattle.mem_model.specs.Values.{cell_of};
 ghost use Rattle.mem_model.specs.Globals.{contents};
-ghost use Rattle.interp_local.specs.Operands.{AreFew};
 ghost use Rattle.first_memory.specs.Contents.{value_bytes, element_bytes, address_bytes, with_element};
 
 use ir_core::{Element, Init, Name, OutOfMemory, Ty};
@@ -56,16 +55,25 @@ fn add_parts(out: &mut Vec<Byte>, pointer: Ptr) -> Result<(), OutOfMemory>
     Ok(())
 }
 
+/// A place as the number in a block's name; want of memory for 2^32 or more, which no name has.
+pub(crate) fn number_of(place: usize) -> Result<u32, OutOfMemory>
+    ensures { IfOk result (λ n. n ≡ place) }
+{
+    match u32::try_from(place) {
+        Ok(number) => Ok(number),
+        Err(_) => Err(OutOfMemory),
+    }
+}
+
 /// Appends the address of a global, or of a function's code.
-fn add_address(m: &Indexed, out: &mut Vec<Byte>, name: &Name) -> Result<(), OutOfMemory>
-    requires { AreFew m.now }
+fn add_address(out: &mut Vec<Byte>, name: &Name, m: &Indexed) -> Result<(), OutOfMemory>
     ensures { OnOk result (out.new.items ≡ out.old.items ++ address_bytes m.now name.now) }
 {
     if let Some(place) = m.global(name) {
-        return add_parts(out, Ptr::At(BlockName::Global(place as u32), 0));
+        return add_parts(out, Ptr::At(BlockName::Global(number_of(place)?), 0));
     }
     match m.function(name) {
-        Some(place) => add_parts(out, Ptr::At(BlockName::Code(place as u32), 0)),
+        Some(place) => add_parts(out, Ptr::At(BlockName::Code(number_of(place)?), 0)),
         None => Ok(()),
     }
 }
@@ -106,55 +114,51 @@ fn size_of(m: &Indexed, ty: &Ty) -> Result<u64, OutOfMemory>
 
 /// Appends what an initializer gives a value of a type, without the padding behind it.
 #[cycle(add_value)]
-fn add_value(m: &Indexed, out: &mut Vec<Byte>, ty: &Ty, init: &Init) -> Result<(), OutOfMemory>
-    requires { AreFew m.now }
+fn add_value(out: &mut Vec<Byte>, init: &Init, ty: &Ty, m: &Indexed) -> Result<(), OutOfMemory>
     ensures { OnOk result (out.new.items ≡ out.old.items ++ value_bytes m.now ty.now init.now) }
 {
     match init {
         Init::Zero => Ok(()),
         Init::Int(number) => add_number(out, value_size(ty), *number),
         Init::Null => add_number(out, 8, 0),
-        Init::Addr(name) => add_address(m, out, name),
+        Init::Addr(name) => add_address(out, name, m),
         Init::Bytes(bytes) => add_bytes(out, bytes.as_slice()),
-        Init::Square(elements) => add_items(m, out, elements.as_slice()),
-        Init::Braces(elements) => add_fields(m, out, elements.as_slice()),
+        Init::Square(elements) => add_items(out, elements.as_slice(), m),
+        Init::Braces(elements) => add_fields(out, elements.as_slice(), m),
     }
 }
 
 /// Appends an element, as many bytes as its type takes.
 #[cycle(add_value)]
-fn add_element(m: &Indexed, out: &mut Vec<Byte>, element: &Element) -> Result<(), OutOfMemory>
-    requires { AreFew m.now }
+fn add_element(out: &mut Vec<Byte>, element: &Element, m: &Indexed) -> Result<(), OutOfMemory>
     ensures { OnOk result (out.new.items ≡ out.old.items ++ element_bytes m.now element.now) }
 {
     let base = out.len();
-    add_value(m, out, &element.ty, &element.init)?;
+    add_value(out, &element.init, &element.ty, m)?;
     pad(out, base, size_of(m, &element.ty)?)
 }
 
 /// Appends the items of an array.
 #[cycle(add_value)]
-fn add_items(m: &Indexed, out: &mut Vec<Byte>, elements: &[Element]) -> Result<(), OutOfMemory>
-    requires { AreFew m.now }
+fn add_items(out: &mut Vec<Byte>, elements: &[Element], m: &Indexed) -> Result<(), OutOfMemory>
     ensures { OnOk result (out.new.items ≡ out.old.items ++ flat_map (element_bytes m.now) elements.now) }
 {
     for element in elements {
-        add_element(m, out, element)?;
+        add_element(out, element, m)?;
     }
     Ok(())
 }
 
 /// Appends the fields of a struct, each at its alignment.
 #[cycle(add_value)]
-fn add_fields(m: &Indexed, out: &mut Vec<Byte>, elements: &[Element]) -> Result<(), OutOfMemory>
-    requires { AreFew m.now }
+fn add_fields(out: &mut Vec<Byte>, elements: &[Element], m: &Indexed) -> Result<(), OutOfMemory>
     ensures { OnOk result (out.new.items ≡ out.old.items ++ fold (with_element m.now) [] elements.now) }
 {
     let base = out.len();
     for element in elements {
         let behind = (out.len() - base) as u64;
         pad(out, base, next_multiple(behind, m.align_of(&element.ty))?)?;
-        add_element(m, out, element)?;
+        add_element(out, element, m)?;
     }
     Ok(())
 }
@@ -176,12 +180,11 @@ pub(crate) fn contents_of(
     m: &Indexed,
     global: &ir_core::Global,
 ) -> Result<Vec<Byte>, OutOfMemory>
-    requires { AreFew m.now }
     ensures { IfOk result (λ bytes. bytes.items ≡ contents m.now global.now.ty global.now.init) }
 {
     let mut out = Vec::new(alloc);
     if let Some(init) = &global.init {
-        add_value(m, &mut out, &global.ty, init)?;
+        add_value(&mut out, init, &global.ty, m)?;
         pad(&mut out, 0, size_of(m, &global.ty)?)?;
     }
     Ok(out)

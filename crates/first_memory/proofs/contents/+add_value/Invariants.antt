@@ -1,6 +1,5 @@
 use Rattle.std.proofs.Common.{◌≡◌, ◌++◌, [], length, take}
 use Rattle.std.specs.List.{flat_map, fold}
-use Rattle.interp_local.specs.Operands.{AreFew}
 use Rattle.first_memory.specs.Contents.{element_bytes, with_element}
 use Rattle.first_memory.proofs.contents.+add_value.Given as goal
 
