@@ -4,11 +4,11 @@ ghost use Rattle.ir_core.specs.Instructions.{conventions};
 ghost use Rattle.read_forms.specs.Read.{Gives, head, maybe_at, one_at, look_up, all_for, as_one_of};
 ghost use Rattle.read_body.specs.Body.{argument_at, as_callee, convention_goes, call_type_at, called_at, bare_call_at, led_call_at, call_goes, call_at};
 
-use read_ends::skip_call_end;
 use crate::forms::{CallForm, call_form_ahead};
 use crate::words::read_word;
 use ir_core::{Kind, Or, TailWord, Ty, Typed, Value};
 use ir_lex::TokenKind;
+use read_ends::skip_call_end;
 use read_forms::{
     Ahead, Part, Reading, expect_mark, expect_word, read_list, read_result_type, read_type,
     read_value, skip_attributes, spelled_name,

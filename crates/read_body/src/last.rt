@@ -4,9 +4,9 @@ ghost use Rattle.read_forms.specs.Read.{Gives};
 ghost use Rattle.read_body.specs.Body.{case_at, case_goes, cases_at, switch_at, straight_at, tested_at, branch_at, return_nothing_at, return_value_at, return_at, stop_at, last_at_form, last_at};
 ghost use Rattle.read_body.specs.Seen.{last_seen};
 
-use read_ends::skip_attachments;
 use crate::forms::{LastForm, read_last_form};
 use ir_core::{Case, Inst, Kind, List};
+use read_ends::skip_attachments;
 use read_forms::{
     Ahead, Part, Reading, Repeated, expect_mark, expect_word, read_many, read_next_target,
     read_target, read_typed,

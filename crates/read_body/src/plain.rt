@@ -5,11 +5,11 @@ ghost use Rattle.read_forms.specs.Read.{Gives};
 ghost use Rattle.read_body.specs.Body.{assigned_at, stored_at, fenced_at, assignment_at, store_at, fence_at, plain_call_at, tail_call_at, plain_at};
 
 use crate::calls::{is_at_call, read_call, read_called};
-use read_ends::{read_tail, skip_attachments};
 use crate::forms::{PlainForm, plain_form_ahead};
 use crate::values::{read_flag, read_instruction_value, read_order, read_order_if};
 use crate::words::read_word_with_line;
 use ir_core::{Inst, Kind, Or, TailWord};
+use read_ends::{read_tail, skip_attachments};
 use read_forms::{
     Ahead, Reading, expect_mark, expect_word, read_local_with_line, read_next_typed, read_typed,
 };

@@ -6,8 +6,8 @@ ghost use Rattle.read_forms.specs.Widths.{HasWidth};
 ghost use Rattle.read_body.specs.Rows.{rows_after, one_row_at};
 ghost use Rattle.read_body.specs.Body.{edge_at};
 
-use read_ends::{is_at_attachment, read_attached};
 use ir_core::{Edge, List, Name, Ty, Typed};
+use read_ends::{is_at_attachment, read_attached};
 use read_forms::{
     Ahead, Part, Reading, expect_mark, read_local, read_next, read_typed, read_value,
 };

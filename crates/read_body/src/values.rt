@@ -4,11 +4,11 @@ ghost use Rattle.read_forms.specs.Read.{Gives, at_word};
 ghost use Rattle.read_body.specs.Body.{FlagForm, WrapFlags, ExactFlag, NoFlags, true_at, flag_at, wrap_flags_at, exact_flag_at, scope_at, order_at, order_if_at, flags_at, binary_at, compare_at, cast_at, select_at, phi_at, alloca_at, load_at, change_at, step_at, value_at};
 ghost use Rattle.read_body.specs.Seen.{flags_seen};
 
-use read_ends::{expect_text, read_tail, skip_attachments};
 use crate::forms::{FlagForm, ValueForm, read_value_form};
 use crate::rows::{EdgeOf, Operand, read_edge, read_rows};
 use crate::words::read_word;
 use ir_core::{BinOp, CastOp, Flags, Kind, Order};
+use read_ends::{expect_text, read_tail, skip_attachments};
 use read_forms::{
     Ahead, Reading, expect_mark, expect_word, read_next_typed, read_next_value, read_type,
     read_typed, read_value,

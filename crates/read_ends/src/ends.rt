@@ -141,11 +141,7 @@ pub fn is_at_attachment(ahead: &Ahead) -> bool
 
 /// An attachment and those behind it, for which the value stands.
 #[tactic(auto, unfolding(crate::specs::Ends::attached_at))]
-pub fn read_attached<'a, X: Drop>(
-    alloc: Global,
-    value: X,
-    ahead: Ahead<'a>,
-) -> Reading<'a, X>
+pub fn read_attached<'a, X: Drop>(alloc: Global, value: X, ahead: Ahead<'a>) -> Reading<'a, X>
     ensures { Gives result (attached_at value ahead.entry) }
 {
     let (_, rest) = read_attachment(ahead)?;
