@@ -129,9 +129,9 @@ module _ (types : List TypeDef) (named : Named) (right : Serves types named) whe
       let ty = walk.inner.now in (
         well,
         λ path.
-        ap (λ s. option_map (λ n. int_wrap w64 n) (plus s (inner_offset types path ty))) is
-        ∙ whole (i *ℤ stride (laid_of (name_laid named) ty)) (i *ℤ pos (Size types ty)) (inner_offset types path ty) (ap (λ x. int_wrap w64 (i *ℤ x)) (stride_is ty well) ∙ int_wrap-mul_right w64 i (pos (Size types ty)))
-        ∙ ap (λ o. rest_offset types ty o (i ∷ path)) (sym first),
+            ap (λ s. option_map (λ n. int_wrap w64 n) (plus s (inner_offset types path ty))) is
+            ∙ whole (i *ℤ stride (laid_of (name_laid named) ty)) (i *ℤ pos (Size types ty)) (inner_offset types path ty) (ap (λ x. int_wrap w64 (i *ℤ x)) (stride_is ty well) ∙ int_wrap-mul_right w64 i (pos (Size types ty)))
+            ∙ ap (λ o. rest_offset types ty o (i ∷ path)) (sym first),
       )
 
   pub next_into : (walk : Walk) (part : Bor Ty) (i s d sum : ℤ) → walk.sum ≡ Some s → Some (d, part.now) ≡ step_into named i (parts_by named walk.inner.now) → sum ≡ int_wrap w64 (s +ℤ d) → StandsIn types walk → WalksInto types walk i (Some (record { inner = part; sum = Some sum }))
@@ -140,10 +140,10 @@ module _ (types : List TypeDef) (named : Named) (right : Serves types named) whe
       let goes : Goes i (parts_of types ty) (d, part.now) = type_goes i ty well (Some (d, part.now)) (sym step) in (
         goes.well,
         λ path.
-        ap (λ s. option_map (λ n. int_wrap w64 n) (plus s (inner_offset types path part.now))) is
-        ∙ further s d goes.far (inner_offset types path part.now) goes.distance
-        ∙ ap (λ o. option_map (λ n. int_wrap w64 n) (plus s o)) (sym (goes.rest path))
-        ∙ ap (λ o. rest_offset types ty o (i ∷ path)) (sym before),
+            ap (λ s. option_map (λ n. int_wrap w64 n) (plus s (inner_offset types path part.now))) is
+            ∙ further s d goes.far (inner_offset types path part.now) goes.distance
+            ∙ ap (λ o. option_map (λ n. int_wrap w64 n) (plus s o)) (sym (goes.rest path))
+            ∙ ap (λ o. rest_offset types ty o (i ∷ path)) (sym before),
       )
 
   pub none_into : (walk : Walk) (i s : ℤ) → walk.sum ≡ Some s → None ≡ step_into named i (parts_by named walk.inner.now) → StandsIn types walk → WalksInto types walk i None

@@ -159,7 +159,10 @@ fn locals_of(alloc: Global, f: &Function) -> Result<Locals, OutOfMemory>
 }
 
 /// The names of each function.
-pub(crate) fn all_locals_of(alloc: Global, functions: &[Function]) -> Result<List<Locals>, OutOfMemory>
+pub(crate) fn all_locals_of(
+    alloc: Global,
+    functions: &[Function],
+) -> Result<List<Locals>, OutOfMemory>
     ensures { IfOk result (λ ls. AreAllLocals functions.now ls) }
 {
     let mut all = List::new(alloc);

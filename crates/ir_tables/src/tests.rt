@@ -142,7 +142,10 @@ fn sizes_and_offsets_by_the_list(rt: HostRuntime) -> Result<(), Fail> {
         assert_eq!(rt; listed_size(types.as_slice(), &ty), Some(size));
         assert_eq!(rt; listed_offset(types.as_slice(), &ty, path), offset);
     }
-    assert_eq!(rt; listed_size(types.as_slice(), &named(alloc, b"twice")?), None);
+    assert_eq!(rt;
+        listed_size(types.as_slice(), &named(alloc, b"twice")?),
+        None
+    );
     Ok(())
 }
 
