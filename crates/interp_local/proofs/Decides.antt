@@ -24,8 +24,8 @@ use Rattle.mem_model.specs.declared.step.Trap.{Trap}
 use Rattle.mem_model.specs.declared.step.Trap.TheVariants.{Unreachable}
 use Rattle.mem_model.specs.Eval.{Eval, compared}
 use Rattle.mem_model.specs.Thread.{Frame, ThreadState, where_is}
-use Rattle.mem_model.specs.Values.{cell_of, width_of, value_word, is_word_of, of_type, operand, and_then}
-use Rattle.mem_model.specs.Next.{NextStep, Trapped, with_found, with_number, with_pointer, with_result, loads, stores, case_for, to_block, to_label, Callee, CallsInit, CallsDeinit, CallsFunction, CallsOther, with_body, defined_as, defined_at, callee_of, next_call, next_kind}
+use Rattle.mem_model.specs.Values.{cell_of, width_of, value_word, is_word_of, of_type, operand, and_then, converted}
+use Rattle.mem_model.specs.Next.{NextStep, Local, Trapped, goes_on, with_found, with_number, with_pointer, with_result, loads, stores, case_for, to_block, to_label, Callee, CallsInit, CallsDeinit, CallsFunction, CallsOther, with_body, defined_as, defined_at, callee_of, next_call, next_kind}
 use Rattle.interp_local.specs.declared.actions.Action.{Action}
 use Rattle.interp_local.specs.declared.actions.Action.TheVariants.{Loads, Stores}
 use Rattle.interp_local.specs.Operands.{as_number, as_pointer, cell, or_unreachable}
@@ -107,6 +107,11 @@ module _ (m : Module) (t : ThreadState) (f : Frame) (rest : List Frame) (x : Opt
   load_by true ty p = refl
   load_by false ty p = refl
 
+  cast_by : (b : Bool) (to : Ty) (r : Result Word Trap) → G (and_then (if b then Ok (cell_of to) else Err Unreachable) (λ c. r)) ≡ (if b then with_found r (λ w. Local (goes_on t f rest x w)) else Trapped Unreachable)
+  cast_by true to (Ok w) = refl
+  cast_by true to (Err e) = refl
+  cast_by false to r = refl
+
   store_by : (ty : Ty) (w : Word) (p : Ptr) → is_scalar ty ≡ true → D (and_then (cell ty) (λ c. Ok (Stores p c w))) ≡ stores t f rest (cell_of ty) w (where_is p)
   store_by ty w p e = ap (λ b. D (and_then (if b then Ok (cell_of ty) else Err Unreachable) (λ c. Ok (Stores p c w)))) e
 
@@ -136,6 +141,8 @@ action_is m t f rest x (Bin op flags ty a b) s =
     g_number m t f rest x [] (operand m f.code.registers ty a) _ _ (λ i. g_number m t f rest x [] (operand m f.code.registers ty b) _ _ (λ j. g_then m t f rest x [] (Eval op flags (width_of ty) i j) _ _ (λ n. refl)))
 action_is m t f rest x (ICmp pred ty a b) s =
     g_then m t f rest x [] (operand m f.code.registers ty a) _ _ (λ v. g_then m t f rest x [] (operand m f.code.registers ty b) _ _ (λ w. g_result m t f rest x [] (compared pred (width_of ty) v w) _ _ (λ n. refl)))
+action_is m t f rest x (Cast op from to) s =
+    g_then m t f rest x [] (operand m f.code.registers from.ty from.value) _ _ (λ v. cast_by m t f rest x [] (is_scalar to) to (converted op (width_of from.ty) (width_of to) v))
 action_is m t f rest x (Select c a b) s =
     g_number m t f rest x [] (operand m f.code.registers c.ty c.value) _ _ (λ n. g_then m t f rest x [] (operand m f.code.registers a.ty a.value) _ _ (λ v. g_then m t f rest x [] (operand m f.code.registers b.ty b.value) _ _ (λ w. refl)))
 action_is m t f rest x (LoadInst ty at order align) s = d_pointer m t f rest x [] (operand m f.code.registers at.ty at.value) _ _ (λ p. load_by m t f rest x [] (is_scalar ty) ty p)
@@ -151,6 +158,5 @@ action_is m t f rest x (Ret (Some v)) s = d_then m t f rest x [] (value_word m f
 action_is m t f rest x (Phi ty edges) s = refl
 action_is m t f rest x UnreachableInst s = refl
 action_is m t f rest x (Rmw op at value order align) s = absurd s
-action_is m t f rest x (Cast op from to) s = absurd s
 action_is m t f rest x (Alloca ty align) s = absurd s
 action_is m t f rest x (Gep inbounds ty base path) s = absurd s

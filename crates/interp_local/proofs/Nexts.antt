@@ -118,6 +118,7 @@ p_call init CallsOther p = tt
 p_kind : (m : Module) (k : ℕ) (r : Registers) (init : ℕ) (kind : Kind) → IsServed m kind → OkPlain (action_of m k r init kind)
 p_kind m k r init (Bin op flags ty a b) s = p_gives _
 p_kind m k r init (ICmp pred ty a b) s = p_gives _
+p_kind m k r init (Cast op from to) s = p_gives _
 p_kind m k r init (Select c a b) s = p_gives _
 p_kind m k r init (LoadInst ty at order align) s = p_then (pointer m r at.ty at.value) (λ p. and_then (cell ty) (λ c. Ok (Loads p c))) (λ p. p_then (cell ty) (λ c. Ok (Loads p c)) (λ c. tt))
 p_kind m k r init (StoreInst value at order align) s =
@@ -133,7 +134,6 @@ p_kind m k r init (Ret (Some v)) s = p_then (value_word m r v.value) (λ w. Ok (
 p_kind m k r init (Phi ty edges) s = tt
 p_kind m k r init UnreachableInst s = tt
 p_kind m k r init (Rmw op at value order align) s = absurd s
-p_kind m k r init (Cast op from to) s = absurd s
 p_kind m k r init (Alloca ty align) s = absurd s
 p_kind m k r init (Gep inbounds ty base path) s = absurd s
 

@@ -5,7 +5,7 @@ use Rattle.ir_core.specs.declared.instructions.Typed.{Typed}
 use Rattle.ir_core.specs.declared.instructions.Case.{Case}
 use Rattle.ir_core.specs.declared.instructions.RmwOp.{RmwOp}
 use Rattle.ir_core.specs.declared.instructions.Kind.{Kind}
-use Rattle.ir_core.specs.declared.instructions.Kind.TheVariants.{Bin, ICmp, Select, Load as LoadInst, Store as StoreInst, Rmw, Fence, Call, Br, CondBr, Switch, Ret}
+use Rattle.ir_core.specs.declared.instructions.Kind.TheVariants.{Bin, ICmp, Cast, Select, Load as LoadInst, Store as StoreInst, Rmw, Fence, Call, Br, CondBr, Switch, Ret}
 use Rattle.ir_core.specs.declared.module.Module.{Module}
 use Rattle.ir_core.specs.FirstForm.{is_width}
 use Rattle.ir_core.specs.Places.{labels, place_in}
@@ -21,7 +21,7 @@ use Rattle.thread_state.specs.declared.state.Frame.{Frame as FrameData}
 use Rattle.thread_state.specs.declared.state.ThreadState.{ThreadState as ThreadData}
 use Rattle.interp_local.specs.declared.actions.Action.{Action}
 use Rattle.interp_local.specs.declared.actions.Action.TheVariants.{Gives, Passes, Loads, Stores, Updates, Deinit, Calls, Jumps, Returns}
-use Rattle.interp_local.specs.Operands.{number, pointer, cell, or_unreachable, binary, comparison, selection}
+use Rattle.interp_local.specs.Operands.{number, pointer, cell, or_unreachable, binary, comparison, conversion, selection}
 
 abbrev pub first_function : List FrameData → ℕ
 first_function [] = 0
@@ -73,6 +73,7 @@ return_action m r (Some v) = and_then (value_word m r v.value) (λ word. Ok (Ret
 abbrev pub action_of : Module → ℕ → Registers → ℕ → Kind → Result Action Trap
 action_of m k r init (Bin op flags ty a b) = gives (binary m r op flags ty a b)
 action_of m k r init (ICmp pred ty a b) = gives (comparison m r pred ty a b)
+action_of m k r init (Cast op from to) = gives (conversion m r op from to)
 action_of m k r init (Select c a b) = gives (selection m r c a b)
 action_of m k r init (LoadInst ty at order align) = load_action m r ty at
 action_of m k r init (StoreInst value at order align) = store_action m r value at

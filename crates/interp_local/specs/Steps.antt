@@ -2,7 +2,7 @@
 use Rattle.std.specs.Prelude.{◌≡◌, ℕ, List, [], ◌∷◌, reverse, Option, Some, None, Result, Ok, Err}
 use Rattle.ir_core.specs.declared.instructions.Inst.{Inst}
 use Rattle.ir_core.specs.declared.instructions.Kind.{Kind}
-use Rattle.ir_core.specs.declared.instructions.Kind.TheVariants.{Cast, Alloca, Rmw, Gep, Call}
+use Rattle.ir_core.specs.declared.instructions.Kind.TheVariants.{Alloca, Rmw, Gep, Call}
 use Rattle.ir_core.specs.declared.module.Module.{Module}
 use Rattle.ir_core.specs.Places.{Place, inst_at, phis_at}
 use Rattle.mem_model.specs.declared.memory.Word.{Word}
@@ -58,14 +58,13 @@ IsPoint (CallsFunction k params) = ⊥
 IsPoint _ = Unit {0}
 
 abbrev pub IsServed : Module → Kind → Type 0
-IsServed m (Cast op from to) = ⊥
 IsServed m (Alloca ty align) = ⊥
 IsServed m (Rmw op at value order align) = ⊥
 IsServed m (Gep inbounds ty base path) = ⊥
 IsServed m (Call tail_word ret callee operands) = IsPoint (callee_of m callee)
 IsServed m _ = Unit {0}
 
--- no phi, no conversion, block of a stack, atomic change or getelementptr, and no call of a function with blocks
+-- no phi, no block of a stack, atomic change or getelementptr, and no call of a function with blocks
 pub record UsesPlain (m : Module) : Type 0 where
   pub kinds : (p : Place) (i : Inst) → inst_at m p ≡ Some i → IsServed m i.kind
   pub phis : (k b : ℕ) → phis_at m k b ≡ []

@@ -7,7 +7,7 @@ ghost use Rattle.interp_local.specs.Operands.{AreFew, registers};
 ghost use Rattle.interp_local.specs.Actions.{IsAction, gives, action_of, call_action, jump, function_of, load_action, store_action, update_action, branch_action, switch_action, return_action};
 
 use crate::operands::{
-    binary, cell, comparison, number, operand, pointer, selection, value_word, width_of,
+    binary, cell, comparison, conversion, number, operand, pointer, selection, value_word, width_of,
 };
 use ir_core::{Case, Kind, Name, RmwOp, Ty, Typed, Value};
 use ir_tables::Indexed;
@@ -228,6 +228,7 @@ pub fn decide(m: &Indexed, s: &ThreadState, kind: &Kind) -> Result<Action, Trap>
             b,
         } => give(binary(m, s, *op, *flags, ty, a, b)),
         Kind::ICmp { pred, ty, a, b } => give(comparison(m, s, *pred, ty, a, b)),
+        Kind::Cast { op, from, to } => give(conversion(m, s, *op, from, to)),
         Kind::Select { cond, a, b } => give(selection(m, s, cond, a, b)),
         Kind::Load { ty, at, .. } => load(m, s, ty, at),
         Kind::Store { value, at, .. } => store(m, s, value, at),

@@ -17,7 +17,7 @@ mod step;
 #[cfg(test)]
 mod tests;
 
-pub use arithmetic::{compare, eval, sign_extend};
+pub use arithmetic::{compare, eval, sign_extend, wrapped};
 pub use bytes::{cell_size, number_of, place_in, read_word, write_word};
 pub use covering::{Behaves, covers_chain, covers_itself};
 pub use crossing::{accesses_cross, memory_crosses, runs_cross};
