@@ -19,7 +19,7 @@ use Rattle.team_model.specs.declared.Stand.TheVariants.{Runs, Waits, Ended}
 use Rattle.team_model.specs.declared.Trapping.{Trapping}
 use Rattle.team_model.specs.Team.{TeamShared, Team, by_next, by_thread, by_stand, unless_trapped, TeamStep}
 use Rattle.thread_state.specs.declared.state.ThreadState.{ThreadState as ThreadData}
-use Rattle.thread_state.specs.Seen.{thread_seen, IsThread}
+use Rattle.thread_state.specs.Seen.{thread_seen, IsThread, IsSeen}
 use Rattle.interp_local.specs.declared.steps.Own.TheVariants.{Went as WentOn, Event, Done as HasEnded}
 use Rattle.interp_local.specs.Steps.{IsOwn}
 use Rattle.interp.specs.declared.shared.TeamShared.{TeamShared as SharedData}
@@ -49,7 +49,7 @@ own_done m old new (Pending e) h = absurd h
 own_done m old new Done h = (refl, h)
 own_done m old new (Trapped x) h = absurd h
 
-pub own_trap : (m : Module) (old new : ThreadData) (nx : NextStep) (e : Trap) → IsOwn m old new nx (Err e) → (nx ≡ Trapped e) × (new ≡ old)
+pub own_trap : (m : Module) (old new : ThreadData) (nx : NextStep) (e : Trap) → IsOwn m old new nx (Err e) → (nx ≡ Trapped e) × IsSeen m new (thread_seen m old)
 own_trap m old new (Local u) e h = absurd h
 own_trap m old new (Pending v) e h = absurd h
 own_trap m old new Done e h = absurd h
@@ -114,15 +114,15 @@ local_goes m n sh s s' running h =
       moved_is = subst (λ nx. IsMoved nx sh.trapped LocalMove) (sym h.1) (subst (λ o. IsMoved (Local (thread_seen m s')) o LocalMove) (sym none) tt);
     }
 
-pub trap_goes : (m : Module) (n line : ℕ) (sh : SharedData) (s s' : ThreadData) (x : Trap) → is_running sh n ≡ true → IsThread m s → Next m (thread_seen m s) ≡ Trapped x → s' ≡ s → line ≡ line_at m (thread_seen m s') →
+pub trap_goes : (m : Module) (n line : ℕ) (sh : SharedData) (s s' : ThreadData) (x : Trap) → is_running sh n ≡ true → Next m (thread_seen m s) ≡ Trapped x → IsSeen m s' (thread_seen m s) → line ≡ line_at m (thread_seen m s') →
     Advances m n sh (record sh { trapped = Some (record { thread = n; line = line; trap = x }) }) s s' TrapMove
-trap_goes m n line sh s s' x running thread next same line_is = record {
-  thread = subst (IsThread m) (sym same) thread;
+trap_goes m n line sh s s' x running next same line_is = record {
+  thread = same.0;
   step = λ team is there.
       step_by m n (shared_seen sh) (thread_seen m s) (Trapped x) next (not_trapped sh n running) (stands_running sh n running) team is there
       ∙ (λ i. Some (record {
-        shared = record (is i) { trapped = Some (record { thread = n; line = (ap (λ v. line_at m (thread_seen m v)) (sym same) ∙ sym line_is) i; trap = x }) };
-        threads = (sym (set_same team.threads n (thread_seen m s) there) ∙ ap (λ v. slice_set team.threads n (thread_seen m v)) (sym same)) i;
+        shared = record (is i) { trapped = Some (record { thread = n; line = (ap (line_at m) (sym same.1) ∙ sym line_is) i; trap = x }) };
+        threads = (sym (set_same team.threads n (thread_seen m s) there) ∙ ap (slice_set team.threads n) (sym same.1)) i;
       }));
   moved_is = subst (λ nx. IsMoved nx (Some (record { thread = n; line = line; trap = x })) TrapMove) (sym next) refl;
 }

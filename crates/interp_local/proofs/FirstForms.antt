@@ -16,7 +16,7 @@ use Rattle.ir_core.specs.declared.module.Function.{Function}
 use Rattle.ir_core.specs.declared.module.Block.{Block}
 use Rattle.ir_core.specs.EntryPoints.{target_init, target_deinit}
 use Rattle.ir_core.specs.FirstForm.{is_function, is_int_of, is_void, empty, no_result, is_init_operands, is_init_kind, is_test_kind, is_branch_kind, is_branch, by_test, by_init, is_entry, is_user_kind, is_user_inst, is_deinit_operands, is_deinit_kind, is_deinit, is_return_kind, is_return, is_end, user_code, is_user, is_exit, are_kernel_blocks, is_kernel, is_well_formed, is_bare_declaration, declares_init, declares_deinit, are_functions, only_functions, HasOutForm}
-use Rattle.ir_core.specs.Places.{PhiNode, block_in, inst_in, with_phi, leading_phis, phis_in, function_place}
+use Rattle.ir_core.specs.Places.{block_in, inst_in, function_place}
 use Rattle.mem_model.specs.Thread.{Name}
 use Rattle.mem_model.specs.Next.{Callee, CallsInit, CallsDeinit, defined_at, callee_of}
 use Rattle.mem_model.proofs.Runs.{some_injective}
@@ -196,19 +196,6 @@ module _ (m : Module) where
 
   -- ---- the module
 
-  no_phis : (x : Option Name) (k : Kind) (phis : List PhiNode) → NoPhi k → with_phi x k phis ≡ []
-  unfolding NoPhi
-  no_phis x (Phi ty edges) phis none = absurd none
-  no_phis x _ phis none = refl
-
-  first_phis : (is : List Inst) → AllFine is → leading_phis is ≡ []
-  first_phis [] fine = refl
-  first_phis (i ∷ is) fine = no_phis i.result i.kind (leading_phis is) (fine 0 i refl).1
-
-  phis_by : (o : Option Block) → ((b : Block) → o ≡ Some b → AllFine b.insts) → phis_in o ≡ []
-  phis_by None fine = refl
-  phis_by (Some b) fine = first_phis b.insts (fine b refl)
-
   inst_by : (o : Option Block) (n : ℕ) (i : Inst) → ((b : Block) → o ≡ Some b → AllFine b.insts) → inst_in o n ≡ Some i → IsServed m i.kind
   inst_by None n i fine e = let f : ⊥ = cc in absurd f
   inst_by (Some b) n i fine e = (fine b refl n i e).0
@@ -221,7 +208,7 @@ module _ (m : Module) where
       let lines = and_parts (empty m.prelude && empty m.types && empty m.globals) (empty m.tail) p.0 in
       let globals = few_globals m.globals (and_parts (empty m.prelude && empty m.types) (empty m.globals) lines.0).1 in (
         record { globals = omega arith; functions = omega arith },
-        record { kinds = λ at i e. inst_by (block_in (slice_get m.functions at.function) at.block) at.index i (q.0 at.function at.block) e; phis = λ k b. phis_by (block_in (slice_get m.functions k) b) (q.0 k b) },
+        record { kinds = λ at i e. inst_by (block_in (slice_get m.functions at.function) at.block) at.index i (q.0 at.function at.block) e },
       )
     where
       few_globals : {A : Type 0} (xs : List A) → empty xs ≡ true → length xs ≤ 0

@@ -1,5 +1,7 @@
+pub mod Branches
 pub mod Decides
 pub mod FirstForms
+pub mod Jumps
 pub mod Looks
 pub mod Moved
 pub mod Nexts

@@ -7,7 +7,7 @@ use Rattle.mem_model.specs.declared.step.Trap.{Trap}
 use Rattle.mem_model.specs.Thread.{Frame, ThreadState}
 use Rattle.mem_model.specs.Next.{NextStep, Local, Pending, Done, Trapped, with_found, returns, Next}
 use Rattle.thread_state.specs.declared.state.ThreadState.{ThreadState as ThreadData}
-use Rattle.thread_state.specs.Seen.{thread_seen, IsThread}
+use Rattle.thread_state.specs.Seen.{thread_seen, IsThread, IsSeen}
 use Rattle.thread_state.specs.Stored.{only_trap}
 use Rattle.interp_local.specs.declared.steps.Own.{Own}
 use Rattle.interp_local.specs.declared.steps.Own.TheVariants.{Went, Event, Done as HasEnded}
@@ -43,33 +43,36 @@ told_trap nx e result is same = subst (λ r. Tells nx r) (sym same) (subst (λ x
 
 -- ---- runs
 
--- nothing has changed where no step was made
-pub pauses : (m : Module) (old new : ThreadData) (steps limit : ℕ) (nx : NextStep) (own : Result Own Trap) → is_went own ≡ false → IsOwn m old new nx own → (new ≡ old) × Pauses steps limit nx (pause_seen own)
-pauses m old new steps limit (Local u) (Ok Went) w h = let f : ⊥ = cc in absurd f
-pauses m old new steps limit (Local u) (Ok Event) w h = absurd h
-pauses m old new steps limit (Local u) (Ok HasEnded) w h = absurd h
-pauses m old new steps limit (Local u) (Err e) w h = absurd h
-pauses m old new steps limit (Pending v) (Ok Went) w h = absurd h
-pauses m old new steps limit (Pending v) (Ok Event) w h = (h, tt)
-pauses m old new steps limit (Pending v) (Ok HasEnded) w h = absurd h
-pauses m old new steps limit (Pending v) (Err e) w h = absurd h
-pauses m old new steps limit Done (Ok Went) w h = absurd h
-pauses m old new steps limit Done (Ok Event) w h = absurd h
-pauses m old new steps limit Done (Ok HasEnded) w h = (h, tt)
-pauses m old new steps limit Done (Err e) w h = absurd h
-pauses m old new steps limit (Trapped x) (Ok o) w h = absurd (no_trap o h)
+same_as : (m : Module) (old new : ThreadData) → IsThread m old → new ≡ old → IsSeen m new (thread_seen m old)
+same_as m old new is same = (subst (IsThread m) (sym same) is, ap (thread_seen m) same)
+
+-- the state means what it did where no step was made
+pub pauses : (m : Module) (old new : ThreadData) (steps limit : ℕ) (nx : NextStep) (own : Result Own Trap) → is_went own ≡ false → IsThread m old → IsOwn m old new nx own → IsSeen m new (thread_seen m old) × Pauses steps limit nx (pause_seen own)
+pauses m old new steps limit (Local u) (Ok Went) w is h = let f : ⊥ = cc in absurd f
+pauses m old new steps limit (Local u) (Ok Event) w is h = absurd h
+pauses m old new steps limit (Local u) (Ok HasEnded) w is h = absurd h
+pauses m old new steps limit (Local u) (Err e) w is h = absurd h
+pauses m old new steps limit (Pending v) (Ok Went) w is h = absurd h
+pauses m old new steps limit (Pending v) (Ok Event) w is h = (same_as m old new is h, tt)
+pauses m old new steps limit (Pending v) (Ok HasEnded) w is h = absurd h
+pauses m old new steps limit (Pending v) (Err e) w is h = absurd h
+pauses m old new steps limit Done (Ok Went) w is h = absurd h
+pauses m old new steps limit Done (Ok Event) w is h = absurd h
+pauses m old new steps limit Done (Ok HasEnded) w is h = (same_as m old new is h, tt)
+pauses m old new steps limit Done (Err e) w is h = absurd h
+pauses m old new steps limit (Trapped x) (Ok o) w is h = absurd (no_trap o h)
   where
     no_trap : (o : Own) → IsOwn m old new (Trapped x) (Ok o) → ⊥
     no_trap Went h = h
     no_trap Event h = h
     no_trap HasEnded h = h
-pauses m old new steps limit (Trapped x) (Err e) w h = (h.1, h.0)
+pauses m old new steps limit (Trapped x) (Err e) w is h = (h.1, h.0)
 
-pub stays : (m : Module) (first old new : ThreadData) (steps limit : ℕ) (own : Result Own Trap) (pause : Pause) → new ≡ old → IsThread m old → LocalRun m (thread_seen m first) steps (thread_seen m old) → steps ≤ limit → Pauses steps limit (Next m (thread_seen m old)) (pause_seen own) → pause ≡ pause_seen own →
+pub stays : (m : Module) (first old new : ThreadData) (steps limit : ℕ) (own : Result Own Trap) (pause : Pause) → IsSeen m new (thread_seen m old) → LocalRun m (thread_seen m first) steps (thread_seen m old) → steps ≤ limit → Pauses steps limit (Next m (thread_seen m old)) (pause_seen own) → pause ≡ pause_seen own →
     IsRan m first new limit (record { steps = steps; pause = pause })
-stays m first old new steps limit own pause same thread run within h is = record {
-  thread = subst (IsThread m) (sym same) thread;
-  run = subst (λ s. LocalRun m (thread_seen m first) steps (thread_seen m s)) (sym same) run;
+stays m first old new steps limit own pause same run within h is = record {
+  thread = same.0;
+  run = subst (LocalRun m (thread_seen m first) steps) (sym same.1) run;
   within = within;
-  pause = subst (λ s. Pauses steps limit (Next m (thread_seen m s)) pause) (sym same) (subst (Pauses steps limit (Next m (thread_seen m old))) (sym is) h);
+  pause = subst (λ t. Pauses steps limit (Next m t) pause) (sym same.1) (subst (Pauses steps limit (Next m (thread_seen m old))) (sym is) h);
 }

@@ -16,7 +16,7 @@ use Rattle.mem_model.specs.Values.{value_word, operand, and_then}
 use Rattle.mem_model.specs.Next.{NextStep, Trapped, Callee, CallsInit, CallsDeinit, CallsFunction, CallsOther, callee_of, next_inst, next_frames, Next}
 use Rattle.thread_state.specs.declared.state.Frame.{Frame as FrameData}
 use Rattle.thread_state.specs.declared.state.ThreadState.{ThreadState as ThreadData}
-use Rattle.thread_state.specs.Seen.{code_seen, blocks_seen, frames_seen, place_seen, thread_seen}
+use Rattle.thread_state.specs.Seen.{code_seen, blocks_seen, frames_seen, place_seen, thread_seen, IsThread}
 use Rattle.thread_state.specs.Moves.{first_registers}
 use Rattle.interp_local.specs.declared.actions.Action.{Action}
 use Rattle.interp_local.specs.declared.actions.Action.TheVariants.{Loads, Stores, Returns}
@@ -71,8 +71,8 @@ at_inst m s i is = at_by m s (reverse s.frames.items) refl (λ e. let none : fir
 pub ended : (m : Module) (s : ThreadData) → s.frames.items ≡ [] → IsOwn m s s (Next m (thread_seen m s)) (Ok HasEnded)
 ended m s none = subst (λ nx. IsOwn m s s nx (Ok HasEnded)) (sym (ap (λ fs. next_frames m (thread_seen m s) (frames_seen m s.own s.stack.items (length s.stack.items) (reverse fs))) none)) refl
 
-pub no_inst : (m : Module) (s : ThreadData) (a : At m s) → inst_of m s ≡ None → IsOwn m s s (Next m (thread_seen m s)) (Err Unreachable)
-no_inst m s a none = subst (λ nx. IsOwn m s s nx (Err Unreachable)) (sym (a.next ∙ ap (next_inst m (thread_seen m s) a.f a.rest) none)) (refl, refl)
+pub no_inst : (m : Module) (s : ThreadData) (a : At m s) → IsThread m s → inst_of m s ≡ None → IsOwn m s s (Next m (thread_seen m s)) (Err Unreachable)
+no_inst m s a thread none = subst (λ nx. IsOwn m s s nx (Err Unreachable)) (sym (a.next ∙ ap (next_inst m (thread_seen m s) a.f a.rest) none)) (refl, (thread, refl))
 
 pub next_decided : (m : Module) (s : ThreadData) (a : At m s) (i : Inst) (r : Result Action Trap) → inst_of m s ≡ Some i → IsServed m i.kind → r ≡ action_of m (function_of s) (registers m s) s.answers.init i.kind → decided m (thread_seen m s) a.f a.rest i.result (arguments i.kind) r ≡ Next m (thread_seen m s)
 next_decided m s a i r is served e =
@@ -82,8 +82,8 @@ next_decided m s a i r is served e =
     ∙ action_is m t a.f a.rest i.result i.kind served
     ∙ sym (a.next ∙ ap (next_inst m t a.f a.rest) is)
 
-pub decided_trap : (m : Module) (s : ThreadData) (nx : NextStep) (e : Trap) (result : Result Own Trap) → Trapped e ≡ nx → result ≡ Err e → IsOwn m s s nx result
-decided_trap m s nx e result is same = subst (λ r. IsOwn m s s nx r) (sym same) (subst (λ x. IsOwn m s s x (Err e)) is (refl, refl))
+pub decided_trap : (m : Module) (s : ThreadData) (nx : NextStep) (e : Trap) (result : Result Own Trap) → IsThread m s → Trapped e ≡ nx → result ≡ Err e → IsOwn m s s nx result
+decided_trap m s nx e result thread is same = subst (λ r. IsOwn m s s nx r) (sym same) (subst (λ x. IsOwn m s s x (Err e)) is (refl, (thread, refl)))
 
 -- the instruction at which the innermost call stands is served
 served_by : (m : Module) (fs : List FrameData) (i : Inst) → UsesPlain m → first_inst m fs ≡ Some i → IsServed m i.kind

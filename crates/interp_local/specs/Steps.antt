@@ -4,7 +4,7 @@ use Rattle.ir_core.specs.declared.instructions.Inst.{Inst}
 use Rattle.ir_core.specs.declared.instructions.Kind.{Kind}
 use Rattle.ir_core.specs.declared.instructions.Kind.TheVariants.{Alloca, Rmw, Gep, Call}
 use Rattle.ir_core.specs.declared.module.Module.{Module}
-use Rattle.ir_core.specs.Places.{Place, inst_at, phis_at}
+use Rattle.ir_core.specs.Places.{Place, inst_at}
 use Rattle.mem_model.specs.declared.memory.Word.{Word}
 use Rattle.mem_model.specs.declared.step.Trap.{Trap}
 use Rattle.mem_model.specs.declared.memory.Ptr.{Ptr}
@@ -12,19 +12,19 @@ use Rattle.mem_model.specs.Thread.{Name, Frame, ThreadState, Where, InStack, Els
 use Rattle.mem_model.specs.Next.{NextStep, Local, Pending, Done, Trapped, goes_on, goes_past, Callee, CallsFunction, callee_of}
 use Rattle.thread_state.specs.declared.state.Frame.{Frame as FrameData}
 use Rattle.thread_state.specs.declared.state.ThreadState.{ThreadState as ThreadData}
-use Rattle.thread_state.specs.Seen.{thread_seen, place_seen, IsThread}
+use Rattle.thread_state.specs.Seen.{thread_seen, place_seen, IsThread, IsSeen}
 use Rattle.thread_state.specs.Moves.{names_of, IsPlaceOf}
 use Rattle.interp_local.specs.declared.steps.Part.{Part}
 use Rattle.interp_local.specs.declared.steps.Part.TheVariants.{Stack, Elsewhere}
 use Rattle.interp_local.specs.declared.steps.Own.{Own}
 use Rattle.interp_local.specs.declared.steps.Own.TheVariants.{Went, Event, Done as HasEnded}
 
--- the step was made, or nothing has changed
+-- the step was made, or nothing has changed; at a trap the state means what it did
 abbrev pub IsOwn : Module → ThreadData → ThreadData → NextStep → Result Own Trap → Type 0
 IsOwn m old new (Local u) (Ok Went) = IsThread m new × (thread_seen m new ≡ u)
 IsOwn m old new (Pending e) (Ok Event) = new ≡ old
 IsOwn m old new Done (Ok HasEnded) = new ≡ old
-IsOwn m old new (Trapped x) (Err y) = (x ≡ y) × (new ≡ old)
+IsOwn m old new (Trapped x) (Err y) = (x ≡ y) × IsSeen m new (thread_seen m old)
 IsOwn m old new _ _ = ⊥
 
 abbrev pub first_inst : Module → List FrameData → Option Inst
@@ -64,7 +64,6 @@ IsServed m (Gep inbounds ty base path) = ⊥
 IsServed m (Call tail_word ret callee operands) = IsPoint (callee_of m callee)
 IsServed m _ = Unit {0}
 
--- no phi, no block of a stack, atomic change or getelementptr, and no call of a function with blocks
+-- no block of a stack, atomic change or getelementptr, and no call of a function with blocks
 pub record UsesPlain (m : Module) : Type 0 where
   pub kinds : (p : Place) (i : Inst) → inst_at m p ≡ Some i → IsServed m i.kind
-  pub phis : (k b : ℕ) → phis_at m k b ≡ []

@@ -35,7 +35,7 @@ pub enum Action {
 }
 
 /// The place of the function of the innermost call.
-fn function(s: &ThreadState) -> usize
+pub(crate) fn function(s: &ThreadState) -> usize
     ensures { result ≡ function_of s.now }
 {
     match s.frames.last() {

@@ -1,12 +1,13 @@
 //! The steps that a thread makes by itself, as the definition of the next step has them.
 //!
-//! `operands` reads operands, `actions` tells what an instruction does, `steps` does it,
+//! `operands` reads operands, `actions` tells what an instruction does, `steps` does it and `phis` what a branch does,
 //! and `run` makes one step after another.
 #![tactic(auto)]
 
 mod actions;
 mod first_form;
 mod operands;
+mod phis;
 mod run;
 mod steps;
 

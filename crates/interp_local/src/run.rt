@@ -1,8 +1,8 @@
 //! A thread's own steps one after another, up to its next event.
-ghost use Rattle.std.specs.Prelude.{◌≡◌, ℕ, List, [], ◌∷◌, Option, Some, Ok, IsOkAnd};
+ghost use Rattle.std.specs.Prelude.{◌≡◌, ℕ, IsSome, List, [], ◌∷◌, Option, Some, Ok, IsOkAnd};
 ghost use Rattle.ir_core.specs.declared.instructions.Typed.{Typed};
 ghost use Rattle.ir_core.specs.declared.module.Module.{Module};
-ghost use Rattle.ir_core.specs.Places.{Name, phis_at};
+ghost use Rattle.ir_core.specs.Places.{Name};
 ghost use Rattle.mem_model.specs.Answers.{IsCell};
 ghost use Rattle.mem_model.specs.declared.memory.Word.{Word as SpecWord};
 ghost use Rattle.mem_model.specs.Thread.{Frame, InStack, where_is};
@@ -10,10 +10,11 @@ ghost use Rattle.mem_model.specs.Next.{Next, loads, stores, returns};
 ghost use Rattle.thread_state.specs.Seen.{thread_seen, IsThread};
 ghost use Rattle.interp_local.specs.Operands.{AreFew};
 ghost use Rattle.interp_local.specs.Actions.{IsAction, IsPlain, acted};
-ghost use Rattle.interp_local.specs.Steps.{UsesPlain};
+ghost use Rattle.interp_local.specs.Steps.{UsesPlain, inst_of};
 ghost use Rattle.interp_local.specs.Runs.{Tells, IsRan, is_went, pause_seen};
 
 use crate::actions::{Action, decide};
+use crate::phis::look_jump;
 use crate::steps::{Own, Part, Spot, inst_at, next, part_of};
 use ir_core::OutOfMemory;
 use ir_tables::Indexed;
@@ -96,16 +97,20 @@ fn look_return(s: &ThreadState) -> Own
 }
 
 /// What an action would be.
-fn look_at(s: &ThreadState, action: Action) -> Result<Own, Trap>
+fn look_at(m: &Indexed, s: &ThreadState, action: Action) -> Result<Own, Trap>
+    requires thread { IsThread m.now s.now }
+    requires few { AreFew m.now }
+    requires stands { IsSome (inst_of m.now s.now) }
     requires action { IsAction action }
     requires plain { IsPlain action }
-    ensures { (m : Module) (x : Option Name) (f : Frame) (rest : List Frame) (args : List Typed) → ((k b : ℕ) → phis_at m k b ≡ []) → IsThread m s.now → (thread_seen m s.now).frames ≡ f ∷ rest → Tells (acted m (thread_seen m s.now) f rest x args action) result }
+    ensures { (x : Option Name) (f : Frame) (rest : List Frame) (args : List Typed) → (thread_seen m.now s.now).frames ≡ f ∷ rest → Tells (acted m.now (thread_seen m.now s.now) f rest x args action) result }
 {
     match action {
-        Action::Gives(_) | Action::Passes | Action::Jumps(_) => Ok(Own::Went),
+        Action::Gives(_) | Action::Passes => Ok(Own::Went),
         Action::Loads(at, cell) => look_load(s, at, cell),
         Action::Stores(at, cell, _) => look_store(s, at, cell),
         Action::Deinit => Ok(Own::Event),
+        Action::Jumps(block) => look_jump(m, s, block),
         Action::Returns(_) => Ok(look_return(s)),
         Action::Updates(..) | Action::Calls(_) => unreachable!(),
     }
@@ -129,7 +134,7 @@ pub fn look(m: &Indexed, s: &ThreadState) -> Result<Own, Trap>
         return Err(Trap::Unreachable);
     };
     let action = decide(m, s, &inst.kind)?;
-    look_at(s, action)
+    look_at(m, s, action)
 }
 
 /// Whether a step was made.

@@ -1,12 +1,12 @@
 //! The steps that a thread makes by itself.
 ghost use Rattle.std.specs.Prelude.{◌≡◌, ℕ, IsSome, ◌+◌, ◌<◌, ◌^◌, List, [], ◌∷◌, Option, Some, Ok, IfOk, OnSome};
 ghost use Rattle.std.specs.Option.{option_copied};
-ghost use Rattle.ir_core.specs.Places.{Name, phis_at};
+ghost use Rattle.ir_core.specs.Places.{Name};
 ghost use Rattle.mem_model.specs.Answers.{IsCell, IsOf};
 ghost use Rattle.ir_core.specs.declared.module.Module.{Module};
 ghost use Rattle.mem_model.specs.Thread.{Frame, InStack, where_is};
 ghost use Rattle.ir_core.specs.declared.instructions.Typed.{Typed};
-ghost use Rattle.mem_model.specs.Next.{loads, stores, to_block, returns, result_of, Next};
+ghost use Rattle.mem_model.specs.Next.{loads, stores, returns, result_of, Next};
 ghost use Rattle.interp_local.specs.Operands.{AreFew};
 ghost use Rattle.interp_local.specs.Actions.{IsAction, IsPlain, acted};
 ghost use Rattle.thread_state.specs.Seen.{thread_seen, IsThread, IsSeen};
@@ -15,6 +15,7 @@ ghost use Rattle.interp_local.specs.Steps.{IsOwn, Knows, inst_of, part_seen, beh
 
 use crate::actions::{Action, decide};
 use crate::operands::register;
+use crate::phis::jump;
 use ir_core::Inst;
 use ir_tables::Indexed;
 use mem_model::{BlockName, Cell, Ptr, Trap, Word};
@@ -149,14 +150,6 @@ fn store(s: &mut ThreadState, at: Ptr, cell: Cell, word: Word) -> Result<Own, Tr
     }
 }
 
-/// Goes to a block without phis.
-fn jump(s: &mut ThreadState, block: usize) -> Own
-    ensures { (m : Module) (f : Frame) (rest : List Frame) → IsThread m s.old → (thread_seen m s.old).frames ≡ f ∷ rest → phis_at m f.code.at.function block ≡ [] → IsOwn m s.old s.new (to_block m (thread_seen m s.old) f rest (Some block)) (Ok result) }
-{
-    s.jump(block, 0);
-    Own::Went
-}
-
 /// Goes on in the innermost call behind the call at which it stands, with a result or without one.
 fn go_behind(m: &Indexed, s: &mut ThreadState, word: Option<Word>)
     requires { IsSome (inst_of m.now s.old) }
@@ -197,7 +190,8 @@ fn perform(
     requires thread { IsThread m.now s.old }
     requires action { IsAction action }
     requires plain { IsPlain action }
-    requires phis { (k b : ℕ) → phis_at m.now k b ≡ [] }
+    requires few { AreFew m.now }
+    requires stands { IsSome (inst_of m.now s.old) }
     requires within { index_of s.old + 1 < 2 ^ 64 }
     ensures { (x : Option Name) (f : Frame) (rest : List Frame) (args : List Typed) → Knows m.now s.old x register f rest → IsOwn m.now s.old s.new (acted m.now (thread_seen m.now s.old) f rest x args action) result }
 {
@@ -213,7 +207,7 @@ fn perform(
         Action::Loads(at, cell) => load(s, register, at, cell),
         Action::Stores(at, cell, word) => store(s, at, cell, word),
         Action::Deinit => Ok(Own::Event),
-        Action::Jumps(block) => Ok(jump(s, block)),
+        Action::Jumps(block) => jump(m, s, block),
         Action::Returns(word) => Ok(return_to(m, s, word)),
         Action::Updates(..) | Action::Calls(_) => unreachable!(),
     }
@@ -223,7 +217,7 @@ fn perform(
 ///
 /// # Errors
 ///
-/// The trap of the step, and then nothing has changed.
+/// The trap of the step, and then the state means what it did.
 pub fn next(m: &Indexed, s: &mut ThreadState) -> Result<Own, Trap>
     requires thread { IsThread m.now s.old }
     requires few { AreFew m.now }

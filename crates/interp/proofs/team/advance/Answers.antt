@@ -47,4 +47,4 @@ returns-in-Err c =
     let m = c.args.m.now in
     let s = c.args.s.now in
     let p = own_trap m s c.next.new.s (Next m (thread_seen m s)) c.in-Err.trap c.in-Err.ensures in
-    trap_goes m c.args.thread c.line_of.result c.args.sh.now s c.next.new.s c.in-Err.trap c.requires.running c.requires.state p.0 p.1 c.line_of.ensures
+    trap_goes m c.args.thread c.line_of.result c.args.sh.now s c.next.new.s c.in-Err.trap c.requires.running p.0 p.1 c.line_of.ensures

@@ -31,4 +31,4 @@ returns c =
     let a = at m s (not_empty _ _ _ s.frames.ok.0 c.is_empty.ensures c.if-is_empty.false) in
     subst (λ nx. Tells nx c.look_at.result)
     (next_decided m s a i (Ok c.in_ok-action.action) (sym c.in-Some.ensures.value) (served m s i c.requires.plain (sym c.in-Some.ensures.value)) (sym c.in_ok-action.was ∙ c.decide.ensures.value))
-    (c.look_at.ensures m i.result a.f a.rest (arguments i.kind) c.requires.plain.phis c.requires.thread a.frames)
+    (c.look_at.ensures i.result a.f a.rest (arguments i.kind) a.frames)

@@ -11,7 +11,7 @@ returns-in_err-action c =
     let s = c.args.s.now in
     let i = c.in-Some.inst.now in
     let a = at m s (not_empty _ _ _ s.frames.ok.0 c.is_empty.ensures c.if-is_empty.false) in
-    decided_trap m s _ c.in_err-action.field-0.0 _
+    decided_trap m s _ c.in_err-action.field-0.0 _ c.requires.thread
     (next_decided m s a i (Err c.in_err-action.field-0.0) (sym c.in-Some.ensures.value) (served m s i c.requires.plain (sym c.in-Some.ensures.value)) (sym c.in_err-action.was ∙ c.decide.ensures.value))
     (search rules)
 
