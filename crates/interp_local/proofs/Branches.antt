@@ -18,11 +18,12 @@ use Rattle.mem_model.specs.Thread.{Name, Registers, Code, Frame, ThreadState, as
 use Rattle.mem_model.specs.Values.{and_then}
 use Rattle.mem_model.specs.Next.{phi_word, with_phis}
 use Rattle.mem_model.proofs.Runs.{some_injective}
+use Rattle.mem_model.specs.Answers.{only_trap}
 use Rattle.thread_state.specs.declared.state.ThreadState.{ThreadState as ThreadData}
 use Rattle.thread_state.specs.Seen.{thread_seen, IsThread, IsSeen}
 use Rattle.thread_state.specs.Moves.{first_registers, names_of, room_of, with_register, on_first, on_innermost, Moves}
 use Rattle.interp_local.specs.Operands.{registers}
-use Rattle.interp_local.specs.Phis.{phi_result, results, with_kept, phi_words, rest_words, assigned_first, assigned_words, with_words, AreKept, HasGathered, only_trap}
+use Rattle.interp_local.specs.Phis.{phi_result, results, with_kept, phi_words, rest_words, assigned_first, assigned_words, with_words, AreKept, HasGathered}
 
 -- ---- lists
 

@@ -148,6 +148,8 @@ action_is m t f rest x (Select c a b) s =
 action_is m t f rest x (LoadInst ty at order align) s = d_pointer m t f rest x [] (operand m f.code.registers at.ty at.value) _ _ (λ p. load_by m t f rest x [] (is_scalar ty) ty p)
 action_is m t f rest x (StoreInst value at order align) s =
     d_typed m t f rest x [] value.ty (value_word m f.code.registers value.value) _ _ (λ w typed. d_pointer m t f rest x [] (operand m f.code.registers at.ty at.value) _ _ (λ p. store_by m t f rest x [] value.ty w p (is_scalar_of value.ty w typed)))
+action_is m t f rest x (Rmw op at value order align) s =
+    d_pointer m t f rest x [] (operand m f.code.registers at.ty at.value) _ _ (λ p. d_number m t f rest x [] (operand m f.code.registers value.ty value.value) _ _ (λ n. refl))
 action_is m t f rest x (Fence order) s = refl
 action_is m t f rest x (Call tail_word ret callee operands) s = call_by m t f rest x operands (callee_of m callee) (callee_place m callee)
 action_is m t f rest x (Br to) s = jump_is m t f rest x [] to
@@ -157,6 +159,5 @@ action_is m t f rest x (Ret None) s = refl
 action_is m t f rest x (Ret (Some v)) s = d_then m t f rest x [] (value_word m f.code.registers v.value) _ _ (λ w. refl)
 action_is m t f rest x (Phi ty edges) s = refl
 action_is m t f rest x UnreachableInst s = refl
-action_is m t f rest x (Rmw op at value order align) s = absurd s
 action_is m t f rest x (Alloca ty align) s = absurd s
 action_is m t f rest x (Gep inbounds ty base path) s = absurd s

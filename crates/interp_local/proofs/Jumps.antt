@@ -7,6 +7,7 @@ use Rattle.mem_model.specs.declared.memory.Word.{Word}
 use Rattle.mem_model.specs.declared.step.Trap.{Trap}
 use Rattle.mem_model.specs.Thread.{Name, Registers, Frame, ThreadState}
 use Rattle.mem_model.specs.Next.{with_found, with_frames, with_phis, enters, to_block}
+use Rattle.mem_model.specs.Answers.{only_trap}
 use Rattle.thread_state.specs.declared.state.Frame.{Frame as FrameData}
 use Rattle.thread_state.specs.declared.state.StackBlock.{StackBlock}
 use Rattle.thread_state.specs.declared.state.ThreadState.{ThreadState as ThreadData}
@@ -16,7 +17,7 @@ use Rattle.interp_local.specs.declared.steps.Own.{Own}
 use Rattle.interp_local.specs.declared.steps.Own.TheVariants.{Went}
 use Rattle.interp_local.specs.Operands.{registers}
 use Rattle.interp_local.specs.Actions.{first_function, function_of}
-use Rattle.interp_local.specs.Phis.{results, phi_words, assigned_words, with_words, AreKept, HasGathered, HavePlaces, only_trap, first_block, block_of}
+use Rattle.interp_local.specs.Phis.{results, phi_words, assigned_words, with_words, AreKept, HasGathered, HavePlaces, first_block, block_of}
 use Rattle.interp_local.specs.Steps.{IsOwn}
 use Rattle.interp_local.specs.Runs.{Tells}
 use Rattle.interp_local.proofs.Results.{block_places}

@@ -6,9 +6,9 @@ use Rattle.mem_model.specs.declared.memory.Word.{Word}
 use Rattle.mem_model.specs.declared.step.Trap.{Trap}
 use Rattle.mem_model.specs.Thread.{Frame, ThreadState}
 use Rattle.mem_model.specs.Next.{NextStep, Local, Pending, Done, Trapped, with_found, returns, Next}
+use Rattle.mem_model.specs.Answers.{only_trap}
 use Rattle.thread_state.specs.declared.state.ThreadState.{ThreadState as ThreadData}
 use Rattle.thread_state.specs.Seen.{thread_seen, IsThread, IsSeen}
-use Rattle.thread_state.specs.Stored.{only_trap}
 use Rattle.interp_local.specs.declared.steps.Own.{Own}
 use Rattle.interp_local.specs.declared.steps.Own.TheVariants.{Went, Event, Done as HasEnded}
 use Rattle.interp_local.specs.Steps.{IsOwn}

@@ -12,17 +12,17 @@ use Rattle.mem_model.specs.declared.memory.Word.{Word}
 use Rattle.mem_model.specs.declared.step.Trap.{Trap}
 use Rattle.mem_model.specs.declared.step.Trap.TheVariants.{Unreachable}
 use Rattle.mem_model.specs.Thread.{Frame, Registers, ThreadState}
-use Rattle.mem_model.specs.Values.{value_word, operand, and_then}
+use Rattle.mem_model.specs.Values.{width_of, value_word, operand, and_then}
 use Rattle.mem_model.specs.Next.{NextStep, Trapped, Callee, CallsInit, CallsDeinit, CallsFunction, CallsOther, callee_of, next_inst, next_frames, Next}
 use Rattle.thread_state.specs.declared.state.Frame.{Frame as FrameData}
 use Rattle.thread_state.specs.declared.state.ThreadState.{ThreadState as ThreadData}
 use Rattle.thread_state.specs.Seen.{code_seen, blocks_seen, frames_seen, place_seen, thread_seen, IsThread}
 use Rattle.thread_state.specs.Moves.{first_registers}
 use Rattle.interp_local.specs.declared.actions.Action.{Action}
-use Rattle.interp_local.specs.declared.actions.Action.TheVariants.{Loads, Stores, Returns}
+use Rattle.interp_local.specs.declared.actions.Action.TheVariants.{Loads, Stores, Updates, Returns}
 use Rattle.interp_local.specs.declared.steps.Own.{Own}
 use Rattle.interp_local.specs.declared.steps.Own.TheVariants.{Done as HasEnded}
-use Rattle.interp_local.specs.Operands.{registers, pointer, cell, or_unreachable}
+use Rattle.interp_local.specs.Operands.{registers, number, pointer, cell, or_unreachable}
 use Rattle.interp_local.specs.Actions.{first_function, function_of, arguments, gives, call_action, jump, action_of, IsPlain, decided}
 use Rattle.interp_local.specs.Steps.{IsOwn, first_inst, inst_of, IsPoint, IsServed, UsesPlain}
 use Rattle.interp_local.proofs.Decides.{action_is}
@@ -124,6 +124,7 @@ p_kind m k r init (LoadInst ty at order align) s = p_then (pointer m r at.ty at.
 p_kind m k r init (StoreInst value at order align) s =
     p_then (operand m r value.ty value.value) (λ w. and_then (pointer m r at.ty at.value) (λ p. and_then (cell value.ty) (λ c. Ok (Stores p c w)))) (λ w.
     p_then (pointer m r at.ty at.value) (λ p. and_then (cell value.ty) (λ c. Ok (Stores p c w))) (λ p. p_then (cell value.ty) (λ c. Ok (Stores p c w)) (λ c. tt)))
+p_kind m k r init (Rmw op at value order align) s = p_then (pointer m r at.ty at.value) (λ p. and_then (number m r value.ty value.value) (λ n. Ok (Updates p (record { width = width_of value.ty; op = op; number = n })))) (λ p. p_then (number m r value.ty value.value) (λ n. Ok (Updates p (record { width = width_of value.ty; op = op; number = n }))) (λ n. tt))
 p_kind m k r init (Fence order) s = tt
 p_kind m k r init (Call tail_word ret callee operands) s = p_call init (callee_of m callee) s
 p_kind m k r init (Br to) s = p_jump m k to
@@ -133,7 +134,6 @@ p_kind m k r init (Ret None) s = tt
 p_kind m k r init (Ret (Some v)) s = p_then (value_word m r v.value) (λ w. Ok (Returns (Some w))) (λ w. tt)
 p_kind m k r init (Phi ty edges) s = tt
 p_kind m k r init UnreachableInst s = tt
-p_kind m k r init (Rmw op at value order align) s = absurd s
 p_kind m k r init (Alloca ty align) s = absurd s
 p_kind m k r init (Gep inbounds ty base path) s = absurd s
 

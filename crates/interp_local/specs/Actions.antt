@@ -19,6 +19,7 @@ use Rattle.mem_model.specs.Values.{width_of, value_word, operand, and_then}
 use Rattle.mem_model.specs.Next.{NextStep, Local, Pending, Trapped, Deinit as DeinitEvent, goes_on, goes_past, loads, stores, updates, case_for, to_block, Callee, CallsInit, CallsDeinit, CallsFunction, CallsOther, defined_at, callee_of, next_call, returns}
 use Rattle.thread_state.specs.declared.state.Frame.{Frame as FrameData}
 use Rattle.thread_state.specs.declared.state.ThreadState.{ThreadState as ThreadData}
+use Rattle.interp_local.specs.declared.actions.Change.{Change}
 use Rattle.interp_local.specs.declared.actions.Action.{Action}
 use Rattle.interp_local.specs.declared.actions.Action.TheVariants.{Gives, Passes, Loads, Stores, Updates, Deinit, Calls, Jumps, Returns}
 use Rattle.interp_local.specs.Operands.{number, pointer, cell, or_unreachable, binary, comparison, conversion, selection}
@@ -57,7 +58,7 @@ abbrev pub store_action : Module → Registers → Typed → Typed → Result Ac
 store_action m r value at = and_then (operand m r value.ty value.value) (λ word. and_then (pointer m r at.ty at.value) (λ p. and_then (cell value.ty) (λ c. Ok (Stores p c word))))
 
 abbrev pub update_action : Module → Registers → RmwOp → Typed → Typed → Result Action Trap
-update_action m r op at value = and_then (pointer m r at.ty at.value) (λ p. and_then (number m r value.ty value.value) (λ n. Ok (Updates p (width_of value.ty) op n)))
+update_action m r op at value = and_then (pointer m r at.ty at.value) (λ p. and_then (number m r value.ty value.value) (λ n. Ok (Updates p (record { width = width_of value.ty; op = op; number = n }))))
 
 abbrev pub branch_action : Module → ℕ → Registers → Typed → Name → Name → Result Action Trap
 branch_action m k r c then_to else_to = and_then (number m r c.ty c.value) (λ n. jump m k (if n == 0 then else_to else then_to))
@@ -86,16 +87,19 @@ action_of m k r init (Switch on other cases) = switch_action m k r on other case
 action_of m k r init (Ret value) = return_action m r value
 action_of m k r init _ = Err Unreachable
 
+-- a change of an integer of a width, by a number of it
+abbrev pub IsChange : Change → Type 0
+IsChange change = (is_width change.width ≡ true) × (change.number < 2 ^ change.width)
+
 -- an access is of a cell, and a word that is stored is of it
 abbrev pub IsAction : Action → Type 0
 IsAction (Loads at c) = IsCell c
 IsAction (Stores at c word) = IsCell c × IsOf c word
-IsAction (Updates at width op n) = (is_width width ≡ true) × (n < 2 ^ width)
+IsAction (Updates at change) = IsChange change
 IsAction _ = Unit {0}
 
--- no atomic change, and no call of a function with blocks
+-- no call of a function with blocks
 abbrev pub IsPlain : Action → Type 0
-IsPlain (Updates at width op n) = ⊥
 IsPlain (Calls k) = ⊥
 IsPlain _ = Unit {0}
 
@@ -107,7 +111,7 @@ acted m t f rest x args (Gives word) = Local (goes_on t f rest x word)
 acted m t f rest x args Passes = Local (goes_past t f rest)
 acted m t f rest x args (Loads at cell) = loads t f rest x cell (where_is at)
 acted m t f rest x args (Stores at cell word) = stores t f rest cell word (where_is at)
-acted m t f rest x args (Updates at width op n) = updates t f rest x width op n (where_is at)
+acted m t f rest x args (Updates at change) = updates t f rest x change.width change.op change.number (where_is at)
 acted m t f rest x args Deinit = Pending DeinitEvent
 acted m t f rest x args (Calls k) = next_call m t f rest x args (defined_at m (Some k))
 acted m t f rest x args (Jumps b) = to_block m t f rest (Some b)

@@ -60,10 +60,6 @@ AreKept _ room _ = ⊥
 abbrev pub HasGathered : {U : Type 0} → Module → Name → List PhiNode → ThreadData → ThreadData → Result U Trap → Type 0
 HasGathered m from phis old new result = IsSeen m new (thread_seen m old) × AreKept (phi_words m (registers m old) from phis) (room_of new) result
 
-abbrev pub only_trap : {A : Type 0} → Result A Trap → Result (Unit {0}) Trap
-only_trap (Ok x) = Ok tt
-only_trap (Err e) = Err e
-
 -- ---- blocks
 
 abbrev pub first_block : Module → List FrameData → Option Block

@@ -2,7 +2,7 @@
 use Rattle.std.specs.Prelude.{◌≡◌, ℕ, List, [], ◌∷◌, reverse, Option, Some, None, Result, Ok, Err}
 use Rattle.ir_core.specs.declared.instructions.Inst.{Inst}
 use Rattle.ir_core.specs.declared.instructions.Kind.{Kind}
-use Rattle.ir_core.specs.declared.instructions.Kind.TheVariants.{Alloca, Rmw, Gep, Call}
+use Rattle.ir_core.specs.declared.instructions.Kind.TheVariants.{Alloca, Gep, Call}
 use Rattle.ir_core.specs.declared.module.Module.{Module}
 use Rattle.ir_core.specs.Places.{Place, inst_at}
 use Rattle.mem_model.specs.declared.memory.Word.{Word}
@@ -59,11 +59,10 @@ IsPoint _ = Unit {0}
 
 abbrev pub IsServed : Module → Kind → Type 0
 IsServed m (Alloca ty align) = ⊥
-IsServed m (Rmw op at value order align) = ⊥
 IsServed m (Gep inbounds ty base path) = ⊥
 IsServed m (Call tail_word ret callee operands) = IsPoint (callee_of m callee)
 IsServed m _ = Unit {0}
 
--- no block of a stack, atomic change or getelementptr, and no call of a function with blocks
+-- no block of a stack and no getelementptr, and no call of a function with blocks
 pub record UsesPlain (m : Module) : Type 0 where
   pub kinds : (p : Place) (i : Inst) → inst_at m p ≡ Some i → IsServed m i.kind

@@ -14,6 +14,14 @@ use ir_tables::Indexed;
 use mem_model::{Cell, Ptr, Trap, Word};
 use thread_state::ThreadState;
 
+/// An atomic change of a number with so many bits, by an operation and its operand.
+#[derive(Clone, Copy)]
+pub struct Change {
+    pub width: u32,
+    pub op: RmwOp,
+    pub number: u64,
+}
+
 /// What an instruction does.
 #[derive(Clone, Copy)]
 pub enum Action {
@@ -23,8 +31,7 @@ pub enum Action {
     Passes,
     Loads(Ptr, Cell),
     Stores(Ptr, Cell, Word),
-    /// An atomic change of a number with so many bits.
-    Updates(Ptr, u32, RmwOp, u64),
+    Updates(Ptr, Change),
     /// Calls `__kmpc_target_deinit`.
     Deinit,
     /// Calls the function at this place of the module.
@@ -156,7 +163,12 @@ fn update(
 {
     let at = pointer(m, s, &at.ty, &at.value)?;
     let number = number(m, s, &value.ty, &value.value)?;
-    Ok(Action::Updates(at, width_of(&value.ty), op, number))
+    let change = Change {
+        width: width_of(&value.ty),
+        op,
+        number,
+    };
+    Ok(Action::Updates(at, change))
 }
 
 /// A branch by a condition.

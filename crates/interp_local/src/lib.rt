@@ -11,7 +11,7 @@ mod phis;
 mod run;
 mod steps;
 
-pub use actions::{Action, decide};
+pub use actions::{Action, Change, decide};
 pub use first_form::first_form_is_plain;
 pub use run::{Pause, Ran, local_run, look};
 pub use steps::{Own, inst_at, next, result_place};

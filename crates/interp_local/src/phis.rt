@@ -4,10 +4,11 @@ ghost use Rattle.std.specs.Option.{option_copied};
 ghost use Rattle.ir_core.specs.Places.{block_in, leading_phis, edge_from};
 ghost use Rattle.mem_model.specs.Thread.{Frame};
 ghost use Rattle.mem_model.specs.Next as spec;
+ghost use Rattle.mem_model.specs.Answers.{only_trap};
 ghost use Rattle.thread_state.specs.Seen.{thread_seen, IsThread};
 ghost use Rattle.thread_state.specs.Moves.{names_of, room_of, Moves};
 ghost use Rattle.interp_local.specs.Operands.{AreFew, registers};
-ghost use Rattle.interp_local.specs.Phis.{HasGathered, HavePlaces, results, with_words, phi_words, only_trap, block_of};
+ghost use Rattle.interp_local.specs.Phis.{HasGathered, HavePlaces, results, with_words, phi_words, block_of};
 ghost use Rattle.interp_local.specs.Steps.{IsOwn, inst_of};
 ghost use Rattle.interp_local.specs.Runs.{Tells};
 

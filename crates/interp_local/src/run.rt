@@ -6,19 +6,19 @@ ghost use Rattle.ir_core.specs.Places.{Name};
 ghost use Rattle.mem_model.specs.Answers.{IsCell};
 ghost use Rattle.mem_model.specs.declared.memory.Word.{Word as SpecWord};
 ghost use Rattle.mem_model.specs.Thread.{Frame, InStack, where_is};
-ghost use Rattle.mem_model.specs.Next.{Next, loads, stores, returns};
+ghost use Rattle.mem_model.specs.Next.{Next, loads, stores, updates, returns};
 ghost use Rattle.thread_state.specs.Seen.{thread_seen, IsThread};
 ghost use Rattle.interp_local.specs.Operands.{AreFew};
-ghost use Rattle.interp_local.specs.Actions.{IsAction, IsPlain, acted};
+ghost use Rattle.interp_local.specs.Actions.{IsAction, IsChange, IsPlain, acted};
 ghost use Rattle.interp_local.specs.Steps.{UsesPlain, inst_of};
 ghost use Rattle.interp_local.specs.Runs.{Tells, IsRan, is_went, pause_seen};
 
-use crate::actions::{Action, decide};
+use crate::actions::{Action, Change, decide};
 use crate::phis::look_jump;
 use crate::steps::{Own, Part, Spot, inst_at, next, part_of};
 use ir_core::OutOfMemory;
 use ir_tables::Indexed;
-use mem_model::{Cell, Ptr, Trap};
+use mem_model::{Cell, Ptr, Trap, Word};
 use thread_state::ThreadState;
 
 /// Why a run of own steps has paused.
@@ -85,6 +85,33 @@ fn look_store(s: &ThreadState, at: Ptr, cell: Cell) -> Result<Own, Trap>
     }
 }
 
+/// Whether an atomic change in a block of a stack goes.
+fn look_update_own(s: &ThreadState, spot: Spot, change: Change) -> Result<Own, Trap>
+    requires { IsChange change }
+    ensures { (m : Module) (x : Option Name) (f : Frame) (rest : List Frame) → IsThread m s.now → (thread_seen m s.now).frames ≡ f ∷ rest → Tells (updates (thread_seen m s.now) f rest x change.width change.op change.number (InStack (spot.thread, spot.number) spot.offset)) result }
+{
+    if spot.thread != s.own {
+        return Err(Trap::NoBlock);
+    }
+    let cell = Cell::Int(change.width);
+    let Word::Int(_) = s.load(spot.number, spot.offset, cell)? else {
+        return Err(Trap::Unreachable);
+    };
+    s.reaches(spot.number, spot.offset, cell)?;
+    Ok(Own::Went)
+}
+
+/// Whether an atomic change goes.
+fn look_update(s: &ThreadState, at: Ptr, change: Change) -> Result<Own, Trap>
+    requires { IsChange change }
+    ensures { (m : Module) (x : Option Name) (f : Frame) (rest : List Frame) → IsThread m s.now → (thread_seen m s.now).frames ≡ f ∷ rest → Tells (updates (thread_seen m s.now) f rest x change.width change.op change.number (where_is at)) result }
+{
+    match part_of(at) {
+        Part::Stack(spot) => look_update_own(s, spot, change),
+        Part::Elsewhere => Ok(Own::Event),
+    }
+}
+
 /// Whether a return is the thread's own step.
 fn look_return(s: &ThreadState) -> Own
     ensures { (m : Module) (word : Option SpecWord) (f : Frame) (rest : List Frame) → (thread_seen m s.now).frames ≡ f ∷ rest → Tells (returns (thread_seen m s.now) rest f.code.back word) (Ok result) }
@@ -112,7 +139,8 @@ fn look_at(m: &Indexed, s: &ThreadState, action: Action) -> Result<Own, Trap>
         Action::Deinit => Ok(Own::Event),
         Action::Jumps(block) => look_jump(m, s, block),
         Action::Returns(_) => Ok(look_return(s)),
-        Action::Updates(..) | Action::Calls(_) => unreachable!(),
+        Action::Updates(at, change) => look_update(s, at, change),
+        Action::Calls(_) => unreachable!(),
     }
 }
 

@@ -6,19 +6,19 @@ ghost use Rattle.mem_model.specs.Answers.{IsCell, IsOf};
 ghost use Rattle.ir_core.specs.declared.module.Module.{Module};
 ghost use Rattle.mem_model.specs.Thread.{Frame, InStack, where_is};
 ghost use Rattle.ir_core.specs.declared.instructions.Typed.{Typed};
-ghost use Rattle.mem_model.specs.Next.{loads, stores, returns, result_of, Next};
+ghost use Rattle.mem_model.specs.Next.{loads, stores, updates, returns, result_of, Next};
 ghost use Rattle.interp_local.specs.Operands.{AreFew};
-ghost use Rattle.interp_local.specs.Actions.{IsAction, IsPlain, acted};
+ghost use Rattle.interp_local.specs.Actions.{IsAction, IsChange, IsPlain, acted};
 ghost use Rattle.thread_state.specs.Seen.{thread_seen, IsThread, IsSeen};
 ghost use Rattle.thread_state.specs.Moves.{names_of, index_of, IsPlaceOf};
 ghost use Rattle.interp_local.specs.Steps.{IsOwn, Knows, inst_of, part_seen, behind, UsesPlain};
 
-use crate::actions::{Action, decide};
+use crate::actions::{Action, Change, decide};
 use crate::operands::register;
 use crate::phis::jump;
 use ir_core::Inst;
 use ir_tables::Indexed;
-use mem_model::{BlockName, Cell, Ptr, Trap, Word};
+use mem_model::{BlockName, Cell, Ptr, Trap, Word, updated};
 use thread_state::ThreadState;
 
 /// What a thread has done by itself.
@@ -150,6 +150,47 @@ fn store(s: &mut ThreadState, at: Ptr, cell: Cell, word: Word) -> Result<Own, Tr
     }
 }
 
+/// Changes a number in a block of a stack atomically.
+fn update_own(
+    s: &mut ThreadState,
+    register: Option<usize>,
+    spot: Spot,
+    change: Change,
+) -> Result<Own, Trap>
+    requires change { IsChange change }
+    requires within { index_of s.old + 1 < 2 ^ 64 }
+    ensures { (m : Module) (x : Option Name) (f : Frame) (rest : List Frame) → Knows m s.old x register f rest → IsOwn m s.old s.new (updates (thread_seen m s.old) f rest x change.width change.op change.number (InStack (spot.thread, spot.number) spot.offset)) result }
+{
+    if spot.thread != s.own {
+        return Err(Trap::NoBlock);
+    }
+    let cell = Cell::Int(change.width);
+    let Word::Int(old) = s.load(spot.number, spot.offset, cell)? else {
+        return Err(Trap::Unreachable);
+    };
+    let new = updated(change.op, change.width, old, change.number);
+    s.store(spot.number, spot.offset, cell, Word::Int(new))?;
+    s.go_on(register, Word::Int(old));
+    Ok(Own::Went)
+}
+
+/// Changes a number where a pointer points to: by itself in a stack.
+fn update(
+    s: &mut ThreadState,
+    register: Option<usize>,
+    at: Ptr,
+    change: Change,
+) -> Result<Own, Trap>
+    requires change { IsChange change }
+    requires within { index_of s.old + 1 < 2 ^ 64 }
+    ensures { (m : Module) (x : Option Name) (f : Frame) (rest : List Frame) → Knows m s.old x register f rest → IsOwn m s.old s.new (updates (thread_seen m s.old) f rest x change.width change.op change.number (where_is at)) result }
+{
+    match part_of(at) {
+        Part::Stack(spot) => update_own(s, register, spot, change),
+        Part::Elsewhere => Ok(Own::Event),
+    }
+}
+
 /// Goes on in the innermost call behind the call at which it stands, with a result or without one.
 fn go_behind(m: &Indexed, s: &mut ThreadState, word: Option<Word>)
     requires { IsSome (inst_of m.now s.old) }
@@ -209,7 +250,8 @@ fn perform(
         Action::Deinit => Ok(Own::Event),
         Action::Jumps(block) => jump(m, s, block),
         Action::Returns(word) => Ok(return_to(m, s, word)),
-        Action::Updates(..) | Action::Calls(_) => unreachable!(),
+        Action::Updates(at, change) => update(s, register, at, change),
+        Action::Calls(_) => unreachable!(),
     }
 }
 

@@ -16,6 +16,7 @@ mod shared;
 mod step;
 #[cfg(test)]
 mod tests;
+mod update;
 
 pub use arithmetic::{compare, eval, sign_extend, wrapped};
 pub use bytes::{cell_size, number_of, place_in, read_word, write_word};
@@ -25,3 +26,4 @@ pub use launch::{Arg, Launch, Shown};
 pub use memory::{BlockName, Byte, Cell, Ptr, Word};
 pub use shared::Memory;
 pub use step::{End, Moved, NotReady, Trap};
+pub use update::updated;

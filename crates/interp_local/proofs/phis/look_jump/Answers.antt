@@ -1,8 +1,9 @@
 use Rattle.std.proofs.Common.{◌≡◌, Some, Ok, Err, sym, ap, ◌∙◌, subst, rules, slice_get}
 use Rattle.ir_core.specs.Places.{block_in, leading_phis}
+use Rattle.mem_model.specs.Answers.{only_trap}
 use Rattle.interp_local.specs.Operands.{registers}
 use Rattle.interp_local.specs.Actions.{function_of}
-use Rattle.interp_local.specs.Phis.{phi_words, only_trap}
+use Rattle.interp_local.specs.Phis.{phi_words}
 use Rattle.interp_local.proofs.Jumps.{look_traps, look_goes}
 use Rattle.interp_local.proofs.phis.look_jump.Goals as goal
 
