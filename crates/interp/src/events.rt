@@ -13,8 +13,8 @@ ghost use Rattle.thread_state.specs.declared.state.ThreadState.{ThreadState as T
 ghost use Rattle.thread_state.specs.Seen.{thread_seen, IsThread};
 ghost use Rattle.thread_state.specs.Moves.{index_of};
 ghost use Rattle.interp_local.specs.Operands.{AreFew};
-ghost use Rattle.interp_local.specs.Actions.{IsAction, IsChange, IsPlain, acted};
-ghost use Rattle.interp_local.specs.Steps.{UsesPlain};
+ghost use Rattle.interp_local.specs.Actions.{IsAction, IsChange, acted};
+ghost use Rattle.interp_local.specs.Steps.{AreSized};
 ghost use Rattle.interp.specs.Events.{IsHere, IsPending, IsUpdated, Makes, HasHappened};
 
 use crate::shared::{Answer, TeamShared};
@@ -146,7 +146,7 @@ fn happen(sh: &mut TeamShared, s: &mut ThreadState, here: Here, action: Action) 
     requires within { index_of s.old + 1 < 2 ^ 64 }
     requires runs { sh.old.trapped ≡ None }
     requires there { here.thread < length sh.old.stands }
-    ensures { (m : Module) (x : Option Name) (f : Frame) (rest : List Frame) (args : List Typed) (e : Event) → IsHere m s.old x here f rest → acted m (thread_seen m s.old) f rest x args action ≡ Pending e → IsPlain action → Makes m here.thread sh.old sh.new s.old s.new e result }
+    ensures { (m : Module) (x : Option Name) (f : Frame) (rest : List Frame) (args : List Typed) (e : Event) → IsHere m s.old x here f rest → acted m (thread_seen m s.old) f rest x args action ≡ Pending e → Makes m here.thread sh.old sh.new s.old s.new e result }
 {
     match action {
         Action::Loads(at, cell) => load(sh, s, here, at, cell),
@@ -173,7 +173,7 @@ pub fn event(
 ) -> Result<Answer, OutOfMemory>
     requires state { IsThread m.now s.old }
     requires few { AreFew m.now }
-    requires plain { UsesPlain m.now }
+    requires sized { AreSized m.now }
     requires pending { IsPending (Next m.now (thread_seen m.now s.old)) }
     requires local { local < 2000000 }
     requires runs { slice_get sh.old.stands thread ≡ Some Stand.Runs }

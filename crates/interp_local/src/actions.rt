@@ -2,9 +2,11 @@
 ghost use Rattle.std.specs.Prelude.{◌≡◌, ℕ, IfOk, Some, Ok, Err, ◌==◌, if◌then◌else◌};
 ghost use Rattle.ir_core.specs.EntryPoints.{target_init, target_deinit};
 ghost use Rattle.ir_core.specs.Places.{function_place};
+ghost use Rattle.ir_core.specs.Layout.{WellFormed, Size};
 ghost use Rattle.mem_model.specs.Next.{defined_at, callee_of, is_case, case_for};
 ghost use Rattle.interp_local.specs.Operands.{AreFew, registers};
-ghost use Rattle.interp_local.specs.Actions.{IsAction, gives, action_of, call_action, jump, function_of, load_action, store_action, update_action, branch_action, switch_action, return_action};
+ghost use Rattle.interp_local.specs.Steps.{IsSized};
+ghost use Rattle.interp_local.specs.Actions.{IsAction, gives, action_of, call_action, jump, function_of, load_action, store_action, update_action, block_action, branch_action, switch_action, return_action};
 
 use crate::operands::{
     binary, cell, comparison, conversion, number, operand, pointer, selection, value_word, width_of,
@@ -32,6 +34,8 @@ pub enum Action {
     Loads(Ptr, Cell),
     Stores(Ptr, Cell, Word),
     Updates(Ptr, Change),
+    /// Makes a block of so many zero bytes in the own stack.
+    Allocates(u64),
     /// Calls `__kmpc_target_deinit`.
     Deinit,
     /// Calls the function at this place of the module.
@@ -171,6 +175,22 @@ fn update(
     Ok(Action::Updates(at, change))
 }
 
+/// The largest block, in bytes.
+const BLOCK_LIMIT: u64 = 1_048_576;
+
+/// A new block of the stack.
+fn block_of(m: &Indexed, ty: &Ty) -> Result<Action, Trap>
+    requires { WellFormed m.now.types ty.now }
+    ensures value { result ≡ block_action (Size m.now.types ty.now) }
+    ensures is { IfOk result IsAction }
+{
+    let size = m.size_of(ty);
+    if size > BLOCK_LIMIT {
+        return Err(Trap::TooLarge);
+    }
+    Ok(Action::Allocates(size))
+}
+
 /// A branch by a condition.
 fn branch(m: &Indexed, s: &ThreadState, cond: &Typed, yes: &Name, no: &Name) -> Result<Action, Trap>
     requires { AreFew m.now }
@@ -227,7 +247,8 @@ fn give(found: Result<Word, Trap>) -> Result<Action, Trap>
 ///
 /// The trap of the first operand that can't be read, or of the operation.
 pub fn decide(m: &Indexed, s: &ThreadState, kind: &Kind) -> Result<Action, Trap>
-    requires { AreFew m.now }
+    requires few { AreFew m.now }
+    requires sized { IsSized m.now kind.now }
     ensures value { result ≡ action_of m.now (function_of s.now) (registers m.now s.now) s.now.answers.init kind.now }
     ensures is { IfOk result IsAction }
 {
@@ -242,6 +263,7 @@ pub fn decide(m: &Indexed, s: &ThreadState, kind: &Kind) -> Result<Action, Trap>
         Kind::ICmp { pred, ty, a, b } => give(comparison(m, s, *pred, ty, a, b)),
         Kind::Cast { op, from, to } => give(conversion(m, s, *op, from, to)),
         Kind::Select { cond, a, b } => give(selection(m, s, cond, a, b)),
+        Kind::Alloca { ty, .. } => block_of(m, ty),
         Kind::Load { ty, at, .. } => load(m, s, ty, at),
         Kind::Store { value, at, .. } => store(m, s, value, at),
         Kind::Rmw { op, at, value, .. } => update(m, s, *op, at, value),

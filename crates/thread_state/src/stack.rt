@@ -163,7 +163,8 @@ impl ThreadState {
     ///
     /// For want of memory, and then nothing changes but the room of the stack; a 2^64th block of one thread isn't made either.
     pub fn make_block(&mut self, alloc: Global, size: usize) -> Result<(), OutOfMemory>
-        ensures { (m : Module) (f : SpecFrame) (rest : Listed SpecFrame) → IsThread m self.old → (thread_seen m self.old).frames ≡ f ∷ rest → HasBlock m size f rest self.old self.new result }
+        ensures frames { self.new.frames ≡ self.old.frames }
+        ensures seen { (m : Module) (f : SpecFrame) (rest : Listed SpecFrame) → IsThread m self.old → (thread_seen m self.old).frames ≡ f ∷ rest → HasBlock m size f rest self.old self.new result }
     {
         let Some(counter) = self.counter.checked_add(1) else {
             return Err(OutOfMemory);
