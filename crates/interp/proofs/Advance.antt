@@ -1,6 +1,6 @@
 -- The steps of a team that a thread's own step, its event or its trap is.
 use Rattle.std.proofs.Common.{◌≡◌, ℕ, zero, suc, List, [], ◌∷◌, map, true, Option, Some, None, Result, Ok, Err, refl, sym, ap, ◌∙◌, subst, slice_get, slice_set}
-use Rattle.std.specs.Prelude.{option_map}
+use Rattle.std.specs.Prelude.{option_map, MatchResult}
 use Rattle.std.proofs.lemmas.Bool.{and_parts}
 use Rattle.std.proofs.lemmas.List.{map-set}
 use Rattle.std.proofs.lemmas.Option.{slice_get-map}
@@ -19,9 +19,10 @@ use Rattle.team_model.specs.declared.Stand.TheVariants.{Runs, Waits, Ended}
 use Rattle.team_model.specs.declared.Trapping.{Trapping}
 use Rattle.team_model.specs.Team.{TeamShared, Team, by_next, by_thread, by_stand, unless_trapped, TeamStep}
 use Rattle.thread_state.specs.declared.state.ThreadState.{ThreadState as ThreadData}
-use Rattle.thread_state.specs.Seen.{thread_seen, IsThread}
+use Rattle.thread_state.specs.Seen.{thread_seen, IsThread, IsSeen}
 use Rattle.interp_local.specs.declared.steps.Own.TheVariants.{Went as WentOn, Event, Done as HasEnded}
-use Rattle.interp_local.specs.Steps.{IsOwn}
+use Rattle.interp_local.specs.declared.steps.Own.{Own}
+use Rattle.interp_local.specs.Steps.{IsOwn, IsNext}
 use Rattle.interp.specs.declared.shared.TeamShared.{TeamShared as SharedData}
 use Rattle.interp.specs.declared.shared.Answer.TheVariants.{Went, Wait, Trapped as TrapAnswer}
 use Rattle.interp.specs.declared.team.Team.{Team as TeamData}
@@ -49,11 +50,14 @@ own_done m old new (Pending e) h = absurd h
 own_done m old new Done h = (refl, h)
 own_done m old new (Trapped x) h = absurd h
 
-pub own_trap : (m : Module) (old new : ThreadData) (nx : NextStep) (e : Trap) → IsOwn m old new nx (Err e) → (nx ≡ Trapped e) × (new ≡ old)
+pub own_trap : (m : Module) (old new : ThreadData) (nx : NextStep) (e : Trap) → IsOwn m old new nx (Err e) → (nx ≡ Trapped e) × IsSeen m new (thread_seen m old)
 own_trap m old new (Local u) e h = absurd h
 own_trap m old new (Pending v) e h = absurd h
 own_trap m old new Done e h = absurd h
 own_trap m old new (Trapped x) e h = (ap Trapped h.0, h.1)
+
+pub next_trap : (m : Module) (old new : ThreadData) (x : Trap) (r : Result Own (Or Trap)) → r ≡ Err (Refused x) → IsNext m old new r → (Next m (thread_seen m old) ≡ Trapped x) × IsSeen m new (thread_seen m old)
+next_trap m old new x r e h = own_trap m old new (Next m (thread_seen m old)) x (subst (IsNext m old new) e h)
 
 -- ---- a thread that runs
 
@@ -114,18 +118,24 @@ local_goes m n sh s s' running h =
       moved_is = subst (λ nx. IsMoved nx sh.trapped LocalMove) (sym h.1) (subst (λ o. IsMoved (Local (thread_seen m s')) o LocalMove) (sym none) tt);
     }
 
-pub trap_goes : (m : Module) (n line : ℕ) (sh : SharedData) (s s' : ThreadData) (x : Trap) → is_running sh n ≡ true → IsThread m s → Next m (thread_seen m s) ≡ Trapped x → s' ≡ s → line ≡ line_at m (thread_seen m s') →
+pub trap_goes : (m : Module) (n line : ℕ) (sh : SharedData) (s s' : ThreadData) (x : Trap) → is_running sh n ≡ true → Next m (thread_seen m s) ≡ Trapped x → IsSeen m s' (thread_seen m s) → line ≡ line_at m (thread_seen m s') →
     Advances m n sh (record sh { trapped = Some (record { thread = n; line = line; trap = x }) }) s s' TrapMove
-trap_goes m n line sh s s' x running thread next same line_is = record {
-  thread = subst (IsThread m) (sym same) thread;
+trap_goes m n line sh s s' x running next same line_is = record {
+  thread = same.0;
   step = λ team is there.
       step_by m n (shared_seen sh) (thread_seen m s) (Trapped x) next (not_trapped sh n running) (stands_running sh n running) team is there
       ∙ (λ i. Some (record {
-        shared = record (is i) { trapped = Some (record { thread = n; line = (ap (λ v. line_at m (thread_seen m v)) (sym same) ∙ sym line_is) i; trap = x }) };
-        threads = (sym (set_same team.threads n (thread_seen m s) there) ∙ ap (λ v. slice_set team.threads n (thread_seen m v)) (sym same)) i;
+        shared = record (is i) { trapped = Some (record { thread = n; line = (ap (line_at m) (sym same.1) ∙ sym line_is) i; trap = x }) };
+        threads = (sym (set_same team.threads n (thread_seen m s) there) ∙ ap (slice_set team.threads n) (sym same.1)) i;
       }));
   moved_is = subst (λ nx. IsMoved nx (Some (record { thread = n; line = line; trap = x })) TrapMove) (sym next) refl;
 }
+
+pub err_is : {A E : Type 0} (P : A → Type 0) (Q : Type 0) (r : Result A E) (x : E) → MatchResult r P (λ e. Q) → r ≡ Err x → Q
+err_is P Q r x h e = subst (λ y. MatchResult y P (λ e. Q)) e h
+
+pub memory_wants : (m : Module) (n : ℕ) (sh sh' : SharedData) (s s' : ThreadData) (result : Result Moved (Or NotReady)) → result ≡ Err WantOfMemory → IsThread m s → (sh' ≡ sh) × (s' ≡ s) → HasAdvanced m n sh sh' s s' result
+memory_wants m n sh sh' s s' result is thread same = subst (HasAdvanced m n sh sh' s s') (sym is) (same.0, (subst (IsThread m) (sym same.1) thread, ap (thread_seen m) same.1))
 
 pub no_wait : (o : Option Trapping) → IsAnswer o Wait → ⊥
 no_wait None a = a
@@ -154,4 +164,11 @@ stepped m n old new s s' sh' (Err (Refused r)) shared items are there running h 
       step_by m n (shared_seen old.shared) (thread_seen m s) Done h.0 (not_trapped old.shared n running) (stands_running old.shared n running) (team_seen m old) refl found,
       (shared ∙ h.1, items ∙ ap (slice_set old.threads.items n) h.2 ∙ set_same old.threads.items n s there),
     )
-stepped m n old new s s' sh' (Err WantOfMemory) shared items are there running h = (shared ∙ h.0, items ∙ ap (slice_set old.threads.items n) h.1 ∙ set_same old.threads.items n s there)
+stepped m n old new s s' sh' (Err WantOfMemory) shared items are there running h =
+    let found : slice_get (map (thread_seen m) old.threads.items) n ≡ Some (thread_seen m s) = slice_get-map (thread_seen m) old.threads.items n ∙ ap (option_map (thread_seen m)) there in
+    let threads : map (thread_seen m) new.threads.items ≡ map (thread_seen m) old.threads.items =
+    ap (map (thread_seen m)) items
+    ∙ map-set (thread_seen m) old.threads.items n s'
+    ∙ ap (slice_set (map (thread_seen m) old.threads.items) n) h.1.1
+    ∙ set_same (map (thread_seen m) old.threads.items) n (thread_seen m s) found in
+    (shared ∙ h.0, (λ i. record { shared = shared_seen ((shared ∙ h.0) i); threads = threads i }), subst (AreThreads m) (sym items) (all_set m old.threads.items n s' are h.1.0))

@@ -1,5 +1,5 @@
 -- The pending event of a thread, by what its action is, and the step of a team that it is.
-use Rattle.std.proofs.Common.{◌≡◌, ℕ, zero, suc, List, [], ◌∷◌, Option, Some, None, Result, Ok, Err, refl, sym, ap, ◌∙◌, subst, slice_get, slice_set}
+use Rattle.std.proofs.Common.{◌≡◌, ℕ, ℤ, zero, suc, Bool, true, false, ◌&&◌, List, [], ◌∷◌, Option, Some, None, Result, Ok, Err, refl, sym, ap, ◌∙◌, subst, slice_get, slice_set}
 use Rattle.ir_core.specs.declared.module.Module.{Module}
 use Rattle.ir_core.specs.Places.{Name}
 use Rattle.mem_model.specs.declared.memory.BlockName.TheVariants.{Arg, Global, Heap, Stack, Captures, Code}
@@ -8,10 +8,20 @@ use Rattle.mem_model.specs.declared.memory.Ptr.TheVariants.{Num as Number, At}
 use Rattle.mem_model.specs.declared.memory.Word.{Word}
 use Rattle.mem_model.specs.declared.memory.Cell.{Cell}
 use Rattle.mem_model.specs.declared.step.Trap.{Trap}
-use Rattle.mem_model.specs.Memory.{Memory, Given, Store}
-use Rattle.mem_model.specs.Answers.{IsDone}
-use Rattle.mem_model.specs.Thread.{Frame, ThreadState, where_is, given_of}
-use Rattle.mem_model.specs.Next.{NextStep, Local, Pending, Done, Trapped, with_found, loads, stores, Event, Does, Deinit, Leaves, Loads, Stores, Next, line_at}
+use Rattle.std.specs.FinMap as fin
+use Rattle.ir_core.specs.declared.instructions.RmwOp.{RmwOp}
+use Rattle.mem_model.specs.declared.memory.BlockName.{BlockName}
+use Rattle.mem_model.specs.declared.memory.Byte.{Byte}
+use Rattle.mem_model.specs.declared.memory.Word.TheVariants.{Int, Ptr as Address}
+use Rattle.mem_model.specs.declared.step.Trap.TheVariants.{NoBlock, Released, Constant, NotNumber}
+use Rattle.mem_model.specs.Words.{cell_size, word_bytes, word_in}
+use Rattle.mem_model.specs.Memory.{Memory, Header, Given, Shares, inside, unless, then_unless, access, bytes_at, put_bytes, load_from, store_to, Load, Store}
+use Rattle.mem_model.specs.declared.memory.Cell.TheVariants.{Int as IntCell}
+use Rattle.mem_model.specs.Values.{updated}
+use Rattle.mem_model.specs.Update.{Updated, update_number, update_at, Update}
+use Rattle.mem_model.specs.Answers.{IsDone, only_trap}
+use Rattle.mem_model.specs.Thread.{Frame, ThreadState, where_is, given_of, find_in, put_in, load_own, store_own}
+use Rattle.mem_model.specs.Next.{NextStep, Local, Pending, Done, Trapped, with_found, with_number, with_frames, code_on, loads, stores, updates, Event, Does, Deinit, Leaves, Loads, Stores, Updates, Next, line_at}
 use Rattle.mem_model.specs.Do.{Effect, Do, stored}
 use Rattle.mem_model.proofs.Runs.{some_injective}
 use Rattle.team_model.specs.declared.Stand.TheVariants.{Runs, Ended as Gone}
@@ -21,7 +31,7 @@ use Rattle.thread_state.specs.Seen.{thread_seen, IsThread}
 use Rattle.interp.specs.declared.shared.TeamShared.{TeamShared as SharedData}
 use Rattle.interp.specs.declared.shared.Answer.{Answer}
 use Rattle.interp.specs.declared.shared.Answer.TheVariants.{Trapped as TrapAnswer}
-use Rattle.interp.specs.Events.{shared_seen, by_effect, made, IsAnswer, IsPending, Makes}
+use Rattle.interp.specs.Events.{shared_seen, by_effect, made, IsAnswer, IsPending, IsUpdated, Makes}
 
 -- ---- stores that trap
 
@@ -46,11 +56,77 @@ not_stored m n line sh new s at cell given trap answer memory is done new_is lin
       history = ap (λ (z : SharedData). z.history) new_is;
     }
 
+-- ---- atomic changes
+
+-- an access that may write may read too
+may_read : (h : Option Header) (offset : ℤ) (count o : ℕ) → access h offset count true ≡ Ok o → access h offset count false ≡ Ok o
+may_read None offset count o e = let f : ⊥ = cc in absurd f
+may_read (Some header) offset count o e = by_parts header.released header.constant (inside header.size offset count) e
+  where
+    by_parts : (released constant : Bool) (r : Result ℕ Trap) → unless released Released (then_unless r (true && constant) Constant) ≡ Ok o → unless released Released (then_unless r (false && constant) Constant) ≡ Ok o
+    by_parts true constant r e = let f : ⊥ = cc in absurd f
+    by_parts false true (Ok x) e = let f : ⊥ = cc in absurd f
+    by_parts false true (Err x) e = let f : ⊥ = cc in absurd f
+    by_parts false false (Ok x) e = e
+    by_parts false false (Err x) e = e
+
+module _ (m : Memory) (cell : Cell) (change : ℕ → ℕ) where
+  -- what an access that may write is, once it is tested
+  reach_err : (block : BlockName) (given : Word) (r : Result ℕ Trap) (e : Trap) → Err e ≡ only_trap (store_to m block cell (Shares given) r) → update_at m block cell change r ≡ Err e
+  reach_err block given (Err x) e h = let same : x ≡ e = cc in ap Err same
+  reach_err block given (Ok o) e h = let f : ⊥ = cc in absurd f
+
+  pub update_refused : (at : Ptr) (given : Word) (e : Trap) → Err e ≡ only_trap (Store m at cell (Shares given)) → Update m at cell change ≡ Err e
+  update_refused (Number n) given e h = let same : NoBlock ≡ e = cc in ap Err same
+  update_refused (At block offset) given e h = reach_err block given (access (fin.get m.blocks block) offset (cell_size cell) true) e h
+
+  reach_ok : (block : BlockName) (given : Word) (r : Result ℕ Trap) → Ok tt ≡ only_trap (store_to m block cell (Shares given) r) → (o : ℕ) × (r ≡ Ok o)
+  reach_ok block given (Err x) h = let f : ⊥ = cc in absurd f
+  reach_ok block given (Ok o) h = (o, refl)
+
+  -- where the access goes
+  record Reached (at : Ptr) (given : Word) : Type 0 where
+    pub block : BlockName
+    pub offset : ℕ
+    pub loads : Load m at cell ≡ word_in cell (bytes_at m block offset (cell_size cell))
+    pub updates : Update m at cell change ≡ update_number m block cell offset change (word_in cell (bytes_at m block offset (cell_size cell)))
+    pub stores : (word : Word) → Store m at cell (Shares word) ≡ Ok (record m { bytes = put_bytes m.bytes block offset (word_bytes cell word) })
+
+  reached : (at : Ptr) (given : Word) → Ok tt ≡ only_trap (Store m at cell (Shares given)) → Reached at given
+  reached (Number n) given h = let f : ⊥ = cc in absurd f
+  reached (At block offset) given h =
+      let p = reach_ok block given (access (fin.get m.blocks block) offset (cell_size cell) true) h in
+      record {
+        block = block;
+        offset = p.0;
+        loads = ap (load_from m block cell) (may_read (fin.get m.blocks block) offset (cell_size cell) p.0 p.1);
+        updates = ap (update_at m block cell change) p.1;
+        stores = λ word. ap (store_to m block cell (Shares word)) p.1;
+      }
+
+  pub update_unread : (at : Ptr) (given : Word) (e : Trap) → Ok tt ≡ only_trap (Store m at cell (Shares given)) → Load m at cell ≡ Err e → Update m at cell change ≡ Err e
+  update_unread at given e h l = let r = reached at given h in r.updates ∙ ap (update_number m r.block cell r.offset change) (sym r.loads ∙ l)
+
+  pub update_no_number : (at : Ptr) (given : Word) (p : Ptr) → Ok tt ≡ only_trap (Store m at cell (Shares given)) → Load m at cell ≡ Ok (Address p) → Update m at cell change ≡ Err NotNumber
+  update_no_number at given p h l = let r = reached at given h in r.updates ∙ ap (update_number m r.block cell r.offset change) (sym r.loads ∙ l)
+
+  pub update_goes : (at : Ptr) (given : Word) (n : ℕ) → Ok tt ≡ only_trap (Store m at cell (Shares given)) → Load m at cell ≡ Ok (Int n) → (new : Memory) × (Store m at cell (Shares (Int (change n))) ≡ Ok new) × (Update m at cell change ≡ Ok (record { memory = new; old = n }))
+  update_goes at given n h l =
+      let r = reached at given h in (record m { bytes = put_bytes m.bytes r.block r.offset (word_bytes cell (Int (change n))) }, r.stores (Int (change n)), r.updates ∙ ap (update_number m r.block cell r.offset change) (sym r.loads ∙ l))
+
+pub updated_trap : (r : Result Updated Trap) (old new : Memory) (e : Trap) (result : Result ℕ Trap) → r ≡ Err e → new ≡ old → result ≡ Err e → IsUpdated r old new result
+updated_trap r old new e result is same result_is = subst (λ x. IsUpdated x old new result) (sym is) (result_is, same)
+
 -- ---- which event an action is
 
 not_pending : {A : Type 0} (r : Result A Trap) (go : A → ThreadState) (e : Event) → with_found r (λ a. Local (go a)) ≡ Pending e → ⊥
 not_pending (Err x) go e h = let f : ⊥ = cc in f
 not_pending (Ok a) go e h = let f : ⊥ = cc in f
+
+not_changing : (r : Result Word Trap) (store : ℕ → Result (List Byte) Trap) (go : Word → List Byte → ThreadState) (e : Event) → with_found r (λ word. with_number word (λ old. with_found (store old) (λ bytes. Local (go word bytes)))) ≡ Pending e → ⊥
+not_changing (Err x) store go e h = let f : ⊥ = cc in f
+not_changing (Ok (Address p)) store go e h = let f : ⊥ = cc in f
+not_changing (Ok (Int n)) store go e h = not_pending (store n) (go (Int n)) e h
 
 event_of : Event → NextStep → Event
 event_of d (Pending e) = e
@@ -77,6 +153,16 @@ store_event t f rest cell word (At (Heap n) o) e h = pending_same _ e h
 store_event t f rest cell word (At (Stack k n) o) e h = absurd (not_pending _ _ e h)
 store_event t f rest cell word (At Captures o) e h = pending_same _ e h
 store_event t f rest cell word (At (Code n) o) e h = pending_same _ e h
+
+pub update_event : (t : ThreadState) (f : Frame) (rest : List Frame) (x : Option Name) (width : ℕ) (op : RmwOp) (n : ℕ) (at : Ptr) (e : Event) → updates t f rest x width op n (where_is at) ≡ Pending e → Does (Updates at width op n) ≡ e
+update_event t f rest x width op n (Number k) e h = pending_same _ e h
+update_event t f rest x width op n (At (Arg k) o) e h = pending_same _ e h
+update_event t f rest x width op n (At (Global k) o) e h = pending_same _ e h
+update_event t f rest x width op n (At (Heap k) o) e h = pending_same _ e h
+update_event t f rest x width op n (At (Stack j k) o) e h = absurd
+    (not_changing (load_own (find_in (f ∷ rest) (j, k)) o (IntCell width)) (λ old. store_own (find_in (f ∷ rest) (j, k)) o (IntCell width) (Int (updated op width old n))) (λ word bytes. with_frames t (put_in (j, k) bytes (record f { code = code_on f.code x word } ∷ rest))) e h)
+update_event t f rest x width op n (At Captures o) e h = pending_same _ e h
+update_event t f rest x width op n (At (Code k) o) e h = pending_same _ e h
 
 pub deinit_event : (e : Event) → Pending Deinit ≡ Pending e → Deinit ≡ e
 deinit_event e h = pending_same Deinit e h

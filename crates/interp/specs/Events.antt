@@ -6,6 +6,8 @@ use Rattle.mem_model.specs.declared.step.Trap.{Trap}
 use Rattle.mem_model.specs.Thread.{Frame, ThreadState}
 use Rattle.mem_model.specs.Next.{Event, Does, Deinit, Leaves, NextStep, Pending, resumed, result_of, line_at}
 use Rattle.mem_model.specs.Do.{Effect, Do}
+use Rattle.mem_model.specs.Memory.{Memory}
+use Rattle.mem_model.specs.Update.{Updated}
 use Rattle.team_model.specs.declared.Stand.TheVariants.{Ended as Gone}
 use Rattle.team_model.specs.declared.Trapping.{Trapping}
 use Rattle.team_model.specs.Team.{TeamShared, Team, slot_after_deinit, TeamStep}
@@ -47,6 +49,11 @@ pub record IsHere (m : Module) (s : ThreadData) (x : Option Name) (here : Here) 
   pub knows : Knows m s x here.register f rest
   pub result : x ≡ result_of (inst_at m f.code.at)
   pub line : here.line ≡ line_at m (thread_seen m s)
+
+-- the memory that was to come and the number that stood there, or the trap and the memory as it was
+abbrev pub IsUpdated : Result Updated Trap → Memory → Memory → Result ℕ Trap → Type 0
+IsUpdated (Ok u) old new result = (result ≡ Ok u.old) × (new ≡ u.memory)
+IsUpdated (Err trap) old new result = (result ≡ Err trap) × (new ≡ old)
 
 -- an event is made, but for the history
 pub record Makes (m : Module) (n : ℕ) (sh sh' : SharedData) (s s' : ThreadData) (e : Event) (answer : Answer) : Type 0 where

@@ -12,7 +12,7 @@ use Rattle.team_model.specs.declared.Stand.TheVariants.{Runs}
 use Rattle.team_model.specs.declared.Trapping.{Trapping}
 use Rattle.team_model.specs.Team.{Team, TeamStep}
 use Rattle.thread_state.specs.declared.state.ThreadState.{ThreadState as ThreadData}
-use Rattle.thread_state.specs.Seen.{thread_seen, IsThread}
+use Rattle.thread_state.specs.Seen.{thread_seen, IsThread, IsSeen}
 use Rattle.interp.specs.declared.shared.TeamShared.{TeamShared as SharedData}
 use Rattle.interp.specs.declared.team.Team.{Team as TeamData}
 use Rattle.interp.specs.Events.{shared_seen}
@@ -46,11 +46,11 @@ pub record Advances (m : Module) (n : ℕ) (sh sh' : SharedData) (s s' : ThreadD
   pub step : (team : Team) → team.shared ≡ shared_seen sh → slice_get team.threads n ≡ Some (thread_seen m s) → TeamStep m team n ≡ Some (record { shared = shared_seen sh'; threads = slice_set team.threads n (thread_seen m s') })
   pub moved_is : IsMoved (Next m (thread_seen m s)) sh'.trapped moved
 
--- a thread that runs makes one step, or has none; for want of memory all is as it was
+-- a thread that runs makes one step, or has none; for want of memory all means what it did
 abbrev pub HasAdvanced : Module → ℕ → SharedData → SharedData → ThreadData → ThreadData → Result Moved (Or NotReady) → Type 0
 HasAdvanced m n sh sh' s s' (Ok moved) = Advances m n sh sh' s s' moved
 HasAdvanced m n sh sh' s s' (Err (Refused r)) = (Next m (thread_seen m s) ≡ Done) × (sh' ≡ sh) × (s' ≡ s)
-HasAdvanced m n sh sh' s s' (Err WantOfMemory) = (sh' ≡ sh) × (s' ≡ s)
+HasAdvanced m n sh sh' s s' (Err WantOfMemory) = (sh' ≡ sh) × IsSeen m s' (thread_seen m s)
 
 abbrev pub AreThreads : Module → List ThreadData → Type 0
 AreThreads m ss = (i : ℕ) (s : ThreadData) → slice_get ss i ≡ Some s → IsThread m s
@@ -62,8 +62,8 @@ MovesBy m n old new moved = (s : ThreadData) → slice_get old.threads.items n �
 abbrev pub IsSame : TeamData → TeamData → Type 0
 IsSame old new = (new.shared ≡ old.shared) × (new.threads.items ≡ old.threads.items)
 
--- the team has made a step of thread n; where that isn't ready, and for want of memory, all is as it was
+-- the team has made a step of thread n; where that isn't ready all is as it was, and for want of memory it means what it did
 abbrev pub HasStepped : Module → ℕ → TeamData → TeamData → Result Moved (Or NotReady) → Type 0
 HasStepped m n old new (Ok moved) = (TeamStep m (team_seen m old) n ≡ Some (team_seen m new)) × AreThreads m new.threads.items × MovesBy m n old new moved
 HasStepped m n old new (Err (Refused r)) = (TeamStep m (team_seen m old) n ≡ None) × IsSame old new
-HasStepped m n old new (Err WantOfMemory) = IsSame old new
+HasStepped m n old new (Err WantOfMemory) = (new.shared ≡ old.shared) × (team_seen m new ≡ team_seen m old) × AreThreads m new.threads.items

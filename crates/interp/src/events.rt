@@ -3,22 +3,25 @@ ghost use Rattle.std.specs.Prelude.{◌≡◌, ℕ, ◌+◌, ◌<◌, ◌^◌, L
 ghost use Rattle.ir_core.specs.declared.module.Module.{Module};
 ghost use Rattle.ir_core.specs.declared.instructions.Typed.{Typed};
 ghost use Rattle.ir_core.specs.Places.{Name};
+ghost use Rattle.mem_model.specs.declared.memory.Cell.TheVariants.{Int as IntCell};
 ghost use Rattle.mem_model.specs.Answers.{IsCell, IsOf};
+ghost use Rattle.mem_model.specs.Values.{updated};
+ghost use Rattle.mem_model.specs.Update.{Update};
 ghost use Rattle.mem_model.specs.Thread.{Frame, given_of};
-ghost use Rattle.mem_model.specs.Next.{Event, Does, Deinit, Leaves, Loads, Stores, Pending, Next};
+ghost use Rattle.mem_model.specs.Next.{Event, Does, Deinit, Leaves, Loads, Stores, Updates, Pending, Next};
 ghost use Rattle.thread_state.specs.declared.state.ThreadState.{ThreadState as ThreadData};
 ghost use Rattle.thread_state.specs.Seen.{thread_seen, IsThread};
 ghost use Rattle.thread_state.specs.Moves.{index_of};
 ghost use Rattle.interp_local.specs.Operands.{AreFew};
-ghost use Rattle.interp_local.specs.Actions.{IsAction, IsPlain, acted};
-ghost use Rattle.interp_local.specs.Steps.{UsesPlain};
-ghost use Rattle.interp.specs.Events.{IsHere, IsPending, Makes, HasHappened};
+ghost use Rattle.interp_local.specs.Actions.{IsAction, IsChange, acted};
+ghost use Rattle.interp_local.specs.Steps.{AreSized};
+ghost use Rattle.interp.specs.Events.{IsHere, IsPending, IsUpdated, Makes, HasHappened};
 
 use crate::shared::{Answer, TeamShared};
-use interp_local::{Action, decide, inst_at, result_place};
+use interp_local::{Action, Change, decide, inst_at, result_place};
 use ir_core::OutOfMemory;
 use ir_tables::Indexed;
-use mem_model::{Cell, Ptr, Trap, Word};
+use mem_model::{Cell, Memory, Ptr, Trap, Word, updated};
 use team_model::{Pair, Stand, Trapping};
 use thread_state::ThreadState;
 
@@ -83,6 +86,37 @@ fn store(
     }
 }
 
+/// Changes a number in shared memory atomically, and tells the number that stood there.
+fn change_at(memory: &mut Memory, at: Ptr, change: Change) -> Result<u64, Trap>
+    requires { IsChange change }
+    ensures { IsUpdated (Update memory.old at (IntCell change.width) (λ old. updated change.op change.width old change.number)) memory.old memory.new result }
+{
+    let cell = Cell::Int(change.width);
+    memory.reaches(&at, cell)?;
+    let Word::Int(old) = memory.read(&at, cell)? else {
+        return Err(Trap::NotNumber);
+    };
+    let new = updated(change.op, change.width, old, change.number);
+    memory.write(&at, cell, Word::Int(new))?;
+    Ok(old)
+}
+
+/// Changes a number in shared memory atomically, and goes on with the number that stood there.
+fn update(sh: &mut TeamShared, s: &mut ThreadState, here: Here, at: Ptr, change: Change) -> Answer
+    requires change { IsChange change }
+    requires within { index_of s.old + 1 < 2 ^ 64 }
+    requires runs { sh.old.trapped ≡ None }
+    ensures { (m : Module) (x : Option Name) (f : Frame) (rest : List Frame) → IsHere m s.old x here f rest → Makes m here.thread sh.old sh.new s.old s.new (Does (Updates at change.width change.op change.number)) result }
+{
+    match change_at(&mut sh.memory, at, change) {
+        Ok(old) => {
+            s.go_on(here.register, Word::Int(old));
+            Answer::Went
+        }
+        Err(trap) => traps(sh, here, trap),
+    }
+}
+
 /// Ends the work of a generic kernel's team; in SPMD mode it does nothing.
 fn deinit(sh: &mut TeamShared, s: &mut ThreadState) -> Answer
     requires within { index_of s.old + 1 < 2 ^ 64 }
@@ -112,11 +146,12 @@ fn happen(sh: &mut TeamShared, s: &mut ThreadState, here: Here, action: Action) 
     requires within { index_of s.old + 1 < 2 ^ 64 }
     requires runs { sh.old.trapped ≡ None }
     requires there { here.thread < length sh.old.stands }
-    ensures { (m : Module) (x : Option Name) (f : Frame) (rest : List Frame) (args : List Typed) (e : Event) → IsHere m s.old x here f rest → acted m (thread_seen m s.old) f rest x args action ≡ Pending e → IsPlain action → Makes m here.thread sh.old sh.new s.old s.new e result }
+    ensures { (m : Module) (x : Option Name) (f : Frame) (rest : List Frame) (args : List Typed) (e : Event) → IsHere m s.old x here f rest → acted m (thread_seen m s.old) f rest x args action ≡ Pending e → Makes m here.thread sh.old sh.new s.old s.new e result }
 {
     match action {
         Action::Loads(at, cell) => load(sh, s, here, at, cell),
         Action::Stores(at, cell, word) => store(sh, s, here, at, cell, word),
+        Action::Updates(at, change) => update(sh, s, here, at, change),
         Action::Deinit => deinit(sh, s),
         Action::Returns(_) => leave(sh, here.thread),
         _ => Answer::Went,
@@ -138,7 +173,7 @@ pub fn event(
 ) -> Result<Answer, OutOfMemory>
     requires state { IsThread m.now s.old }
     requires few { AreFew m.now }
-    requires plain { UsesPlain m.now }
+    requires sized { AreSized m.now }
     requires pending { IsPending (Next m.now (thread_seen m.now s.old)) }
     requires local { local < 2000000 }
     requires runs { slice_get sh.old.stands thread ≡ Some Stand.Runs }

@@ -6,7 +6,7 @@ ghost use Rattle.mem_model.specs.Next.{Next, line_at};
 ghost use Rattle.team_model.specs.Team as spec;
 ghost use Rattle.thread_state.specs.Seen.{thread_seen, IsThread};
 ghost use Rattle.interp_local.specs.Operands.{AreFew};
-ghost use Rattle.interp_local.specs.Steps.{UsesPlain};
+ghost use Rattle.interp_local.specs.Steps.{AreSized};
 ghost use Rattle.interp.specs.Events.{IsPending};
 ghost use Rattle.interp.specs.Teams.{team_seen, AreThreads, HasAdvanced, HasStepped, is_running};
 
@@ -16,6 +16,7 @@ use interp_local::{Own, inst_at, next};
 use ir_core::{List, Or};
 use ir_tables::Indexed;
 use mem_model::{End, Memory, Moved, NotReady};
+use std::alloc::Global;
 use team_model::{Stand, Trapping};
 use thread_state::ThreadState;
 
@@ -118,7 +119,7 @@ fn happen(
 ) -> Result<Moved, Or<NotReady>>
     requires state { IsThread m.now s.old }
     requires few { AreFew m.now }
-    requires plain { UsesPlain m.now }
+    requires sized { AreSized m.now }
     requires pending { IsPending (Next m.now (thread_seen m.now s.old)) }
     requires running { is_running sh.old thread ≡ true }
     ensures { HasAdvanced m.now thread sh.old sh.new s.old s.new result }
@@ -132,6 +133,7 @@ fn happen(
 
 /// Makes the next step of a thread that runs.
 fn advance(
+    alloc: Global,
     m: &Indexed,
     sh: &mut TeamShared,
     s: &mut ThreadState,
@@ -139,15 +141,16 @@ fn advance(
 ) -> Result<Moved, Or<NotReady>>
     requires state { IsThread m.now s.old }
     requires few { AreFew m.now }
-    requires plain { UsesPlain m.now }
+    requires sized { AreSized m.now }
     requires running { is_running sh.old thread ≡ true }
     ensures { HasAdvanced m.now thread sh.old sh.new s.old s.new result }
 {
-    match next(m, s) {
+    match next(alloc, m, s) {
         Ok(Own::Went) => Ok(Moved::Local),
         Ok(Own::Event) => happen(m, sh, s, thread),
         Ok(Own::Done) => Err(Or::Refused(NotReady)),
-        Err(trap) => {
+        Err(Or::Memory) => Err(Or::Memory),
+        Err(Or::Refused(trap)) => {
             sh.trapped = Some(Trapping {
                 thread,
                 line: line_of(m, s),
@@ -172,12 +175,12 @@ fn is_ready(sh: &TeamShared, thread: u32) -> bool
 ///
 /// # Errors
 ///
-/// `NotReady` exactly where there is no such thread, it has ended or waits, or the run has trapped. Then, and for want of
-/// memory, all is as it was.
-pub fn step(m: &Indexed, t: &mut Team, thread: u32) -> Result<Moved, Or<NotReady>>
+/// `NotReady` exactly where there is no such thread, it has ended or waits, or the run has trapped. Then all is as it was; and
+/// so it is, in what it means, for want of memory.
+pub fn step(alloc: Global, m: &Indexed, t: &mut Team, thread: u32) -> Result<Moved, Or<NotReady>>
     requires threads { AreThreads m.now t.old.threads.items }
     requires few { AreFew m.now }
-    requires plain { UsesPlain m.now }
+    requires sized { AreSized m.now }
     ensures { HasStepped m.now thread t.old t.new result }
 {
     if !is_ready(&t.shared, thread) {
@@ -187,5 +190,5 @@ pub fn step(m: &Indexed, t: &mut Team, thread: u32) -> Result<Moved, Or<NotReady
     if at >= t.threads.len() {
         return Err(Or::Refused(NotReady));
     }
-    advance(m, &mut t.shared, &mut t.threads[at], thread)
+    advance(alloc, m, &mut t.shared, &mut t.threads[at], thread)
 }

@@ -1,8 +1,10 @@
 -- The action of an instruction is its next step.
-use Rattle.std.proofs.Common.{◌≡◌, ℕ, List, [], ◌∷◌, Bool, true, false, Option, Some, None, Result, Ok, Err, refl, sym, ap, ◌∙◌}
-use Rattle.std.specs.Prelude.{slice_get, if◌then◌else◌, ◌==◌}
+use Rattle.std.proofs.Common.{◌≡◌, ℕ, ◌<◌, ◌≤◌, min, arith, ◌⊎◌, List, [], ◌∷◌, Bool, true, false, Option, Some, None, Result, Ok, Err, refl, sym, ap, ◌∙◌}
+use Rattle.std.specs.Prelude.{slice_get, nat_le, if◌then◌else◌, ◌==◌}
 use Rattle.std.specs.Str.{bytes_eq}
-use Rattle.std.proofs.lemmas.Bool.{and_parts}
+use Rattle.std.proofs.Math.Nat.{min-le_left}
+use Rattle.std.proofs.lemmas.Bool.{and_parts, le-leb, leb-true, false_from_ne_true}
+use Rattle.mem_model.proofs.Calls.{limit_is}
 use Rattle.ir_core.specs.declared.types.Ty.{Ty}
 use Rattle.ir_core.specs.declared.types.Ty.TheVariants.{Int as IntTy, Ptr as PtrTy}
 use Rattle.ir_core.specs.declared.instructions.Value.{Value}
@@ -16,21 +18,23 @@ use Rattle.ir_core.specs.declared.module.Param.{Param}
 use Rattle.ir_core.specs.declared.module.Block.{Block}
 use Rattle.ir_core.specs.EntryPoints.{target_init, target_deinit}
 use Rattle.ir_core.specs.FirstForm.{is_scalar, is_width}
+use Rattle.ir_core.specs.Layout.{Size}
+use Rattle.mem_model.specs.Memory.{block_limit}
 use Rattle.ir_core.specs.Places.{Name, labels, place_in, function_place}
 use Rattle.mem_model.specs.declared.memory.Ptr.{Ptr}
 use Rattle.mem_model.specs.declared.memory.Word.{Word}
 use Rattle.mem_model.specs.declared.memory.Word.TheVariants.{Int, Ptr as Address}
 use Rattle.mem_model.specs.declared.step.Trap.{Trap}
-use Rattle.mem_model.specs.declared.step.Trap.TheVariants.{Unreachable}
+use Rattle.mem_model.specs.declared.step.Trap.TheVariants.{Unreachable, TooLarge}
 use Rattle.mem_model.specs.Eval.{Eval, compared}
 use Rattle.mem_model.specs.Thread.{Frame, ThreadState, where_is}
-use Rattle.mem_model.specs.Values.{cell_of, width_of, value_word, is_word_of, of_type, operand, and_then}
-use Rattle.mem_model.specs.Next.{NextStep, Trapped, with_found, with_number, with_pointer, with_result, loads, stores, case_for, to_block, to_label, Callee, CallsInit, CallsDeinit, CallsFunction, CallsOther, with_body, defined_as, defined_at, callee_of, next_call, next_kind}
+use Rattle.mem_model.specs.Values.{cell_of, width_of, value_word, is_word_of, of_type, operand, and_then, converted}
+use Rattle.mem_model.specs.Next.{NextStep, Local, Trapped, goes_on, with_found, with_number, with_pointer, with_result, loads, stores, allocates, case_for, to_block, to_label, Callee, CallsInit, CallsDeinit, CallsFunction, CallsOther, with_body, defined_as, defined_at, callee_of, next_call, next_kind}
 use Rattle.interp_local.specs.declared.actions.Action.{Action}
-use Rattle.interp_local.specs.declared.actions.Action.TheVariants.{Loads, Stores}
+use Rattle.interp_local.specs.declared.actions.Action.TheVariants.{Loads, Stores, Allocates}
 use Rattle.interp_local.specs.Operands.{as_number, as_pointer, cell, or_unreachable}
-use Rattle.interp_local.specs.Actions.{gives, call_action, jump, arguments, action_of, decided}
-use Rattle.interp_local.specs.Steps.{IsServed}
+use Rattle.interp_local.specs.Actions.{gives, call_action, jump, block_action, arguments, action_of, decided}
+use Rattle.interp_local.specs.Steps.{IsSized}
 
 -- ---- a function with blocks that is called is the one at its place
 
@@ -66,6 +70,9 @@ is_scalar_of PtrTy (Address p) e = refl
 is_scalar_of (IntTy width) (Address p) e = let f : ⊥ = cc in absurd f
 is_scalar_of PtrTy (Int n) e = let f : ⊥ = cc in absurd f
 is_scalar_of _ w e = let f : ⊥ = cc in absurd f
+
+if_false : {A : Type 0} (b : Bool) (x y : A) → b ≡ false → (if b then x else y) ≡ y
+if_false b x y e = ap (λ c. if c then x else y) e
 
 -- ---- one operand after another
 
@@ -107,6 +114,15 @@ module _ (m : Module) (t : ThreadState) (f : Frame) (rest : List Frame) (x : Opt
   load_by true ty p = refl
   load_by false ty p = refl
 
+  cast_by : (b : Bool) (to : Ty) (r : Result Word Trap) → G (and_then (if b then Ok (cell_of to) else Err Unreachable) (λ c. r)) ≡ (if b then with_found r (λ w. Local (goes_on t f rest x w)) else Trapped Unreachable)
+  cast_by true to (Ok w) = refl
+  cast_by true to (Err e) = refl
+  cast_by false to r = refl
+
+  block_by : (size : ℕ) (b : Bool) → nat_le size block_limit ≡ b → D (if b then Ok (Allocates size) else Err TooLarge) ≡ allocates t f rest x size
+  block_by size true e = refl
+  block_by size false e = sym (if_false _ _ _ e)
+
   store_by : (ty : Ty) (w : Word) (p : Ptr) → is_scalar ty ≡ true → D (and_then (cell ty) (λ c. Ok (Stores p c w))) ≡ stores t f rest (cell_of ty) w (where_is p)
   store_by ty w p e = ap (λ b. D (and_then (if b then Ok (cell_of ty) else Err Unreachable) (λ c. Ok (Stores p c w)))) e
 
@@ -131,16 +147,21 @@ module _ (m : Module) (t : ThreadState) (f : Frame) (rest : List Frame) (x : Opt
   call_by CallsOther h = refl
   call_by (CallsFunction k params) h = ap (next_call m t f rest x args) (h k params refl)
 
-pub action_is : (m : Module) (t : ThreadState) (f : Frame) (rest : List Frame) (x : Option Name) (k : Kind) → IsServed m k → decided m t f rest x (arguments k) (action_of m f.code.at.function f.code.registers t.answers.init k) ≡ next_kind m t f rest x k
+pub action_is : (m : Module) (t : ThreadState) (f : Frame) (rest : List Frame) (x : Option Name) (k : Kind) → IsSized m k → decided m t f rest x (arguments k) (action_of m f.code.at.function f.code.registers t.answers.init k) ≡ next_kind m t f rest x k
 action_is m t f rest x (Bin op flags ty a b) s =
     g_number m t f rest x [] (operand m f.code.registers ty a) _ _ (λ i. g_number m t f rest x [] (operand m f.code.registers ty b) _ _ (λ j. g_then m t f rest x [] (Eval op flags (width_of ty) i j) _ _ (λ n. refl)))
 action_is m t f rest x (ICmp pred ty a b) s =
     g_then m t f rest x [] (operand m f.code.registers ty a) _ _ (λ v. g_then m t f rest x [] (operand m f.code.registers ty b) _ _ (λ w. g_result m t f rest x [] (compared pred (width_of ty) v w) _ _ (λ n. refl)))
+action_is m t f rest x (Cast op from to) s =
+    g_then m t f rest x [] (operand m f.code.registers from.ty from.value) _ _ (λ v. cast_by m t f rest x [] (is_scalar to) to (converted op (width_of from.ty) (width_of to) v))
+action_is m t f rest x (Alloca ty align) s = block_by m t f rest x [] (Size m.types ty) (nat_le (Size m.types ty) block_limit) refl
 action_is m t f rest x (Select c a b) s =
     g_number m t f rest x [] (operand m f.code.registers c.ty c.value) _ _ (λ n. g_then m t f rest x [] (operand m f.code.registers a.ty a.value) _ _ (λ v. g_then m t f rest x [] (operand m f.code.registers b.ty b.value) _ _ (λ w. refl)))
 action_is m t f rest x (LoadInst ty at order align) s = d_pointer m t f rest x [] (operand m f.code.registers at.ty at.value) _ _ (λ p. load_by m t f rest x [] (is_scalar ty) ty p)
 action_is m t f rest x (StoreInst value at order align) s =
     d_typed m t f rest x [] value.ty (value_word m f.code.registers value.value) _ _ (λ w typed. d_pointer m t f rest x [] (operand m f.code.registers at.ty at.value) _ _ (λ p. store_by m t f rest x [] value.ty w p (is_scalar_of value.ty w typed)))
+action_is m t f rest x (Rmw op at value order align) s =
+    d_pointer m t f rest x [] (operand m f.code.registers at.ty at.value) _ _ (λ p. d_number m t f rest x [] (operand m f.code.registers value.ty value.value) _ _ (λ n. refl))
 action_is m t f rest x (Fence order) s = refl
 action_is m t f rest x (Call tail_word ret callee operands) s = call_by m t f rest x operands (callee_of m callee) (callee_place m callee)
 action_is m t f rest x (Br to) s = jump_is m t f rest x [] to
@@ -150,7 +171,25 @@ action_is m t f rest x (Ret None) s = refl
 action_is m t f rest x (Ret (Some v)) s = d_then m t f rest x [] (value_word m f.code.registers v.value) _ _ (λ w. refl)
 action_is m t f rest x (Phi ty edges) s = refl
 action_is m t f rest x UnreachableInst s = refl
-action_is m t f rest x (Rmw op at value order align) s = absurd s
-action_is m t f rest x (Cast op from to) s = absurd s
-action_is m t f rest x (Alloca ty align) s = absurd s
 action_is m t f rest x (Gep inbounds ty base path) s = absurd s
+
+-- ---- a new block of the stack
+
+pub block_large : (size found : ℕ) → found ≡ min size 18446744073709551615 → 1048576 < found → block_action size ≡ Err TooLarge
+block_large size found is above =
+    let low : min size 18446744073709551615 ≤ size = min-le_left size 18446744073709551615 in
+    let over : nat_le size block_limit ≡ false = false_from_ne_true (nat_le size block_limit) (λ e. let within = leb-true size block_limit e in omega (arith, limit_is)) in
+    ap (λ b. if b then Ok (Allocates size) else Err TooLarge) over
+
+pub block_small : (size found : ℕ) → found ≡ min size 18446744073709551615 → found ≤ 1048576 → found ≡ size
+block_small size found is within = let cases = min_cases size 18446744073709551615 in omega (arith, is)
+  where
+    min_cases : (a b : ℕ) → (min a b ≡ a) ⊎ (min a b ≡ b)
+    min_cases a b = grind arith
+
+pub within_limit : (found : ℕ) → found ≤ 1048576 → found ≤ block_limit
+within_limit found within = omega (arith, limit_is)
+
+pub block_goes : (size found : ℕ) → found ≡ size → found ≤ 1048576 → Ok (Allocates found) ≡ block_action size
+block_goes size found is within =
+    ap (λ n. Ok (Allocates n)) is ∙ sym (ap (λ b. if b then Ok (Allocates size) else Err TooLarge) (le-leb size block_limit (omega (arith, limit_is))))

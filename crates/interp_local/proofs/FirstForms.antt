@@ -1,4 +1,4 @@
--- A module of the first form has plain instructions alone.
+-- A module of the first form makes no block of a stack, and computes no address.
 use Rattle.std.proofs.Common.{◌≡◌, ℕ, zero, suc, ◌-◌, ◌≤◌, List, [], ◌∷◌, take, drop, length, Bool, true, false, ◌&&◌, Option, Some, None, refl, sym, subst, slice_get, arith}
 use Rattle.std.specs.Prelude.{if◌then◌else◌}
 use Rattle.std.specs.List.{list_all}
@@ -16,76 +16,43 @@ use Rattle.ir_core.specs.declared.module.Function.{Function}
 use Rattle.ir_core.specs.declared.module.Block.{Block}
 use Rattle.ir_core.specs.EntryPoints.{target_init, target_deinit}
 use Rattle.ir_core.specs.FirstForm.{is_function, is_int_of, is_void, empty, no_result, is_init_operands, is_init_kind, is_test_kind, is_branch_kind, is_branch, by_test, by_init, is_entry, is_user_kind, is_user_inst, is_deinit_operands, is_deinit_kind, is_deinit, is_return_kind, is_return, is_end, user_code, is_user, is_exit, are_kernel_blocks, is_kernel, is_well_formed, is_bare_declaration, declares_init, declares_deinit, are_functions, only_functions, HasOutForm}
-use Rattle.ir_core.specs.Places.{PhiNode, block_in, inst_in, with_phi, leading_phis, phis_in, function_place}
+use Rattle.ir_core.specs.Places.{block_in, inst_in, function_place}
 use Rattle.mem_model.specs.Thread.{Name}
 use Rattle.mem_model.specs.Next.{Callee, CallsInit, CallsDeinit, defined_at, callee_of}
 use Rattle.mem_model.proofs.Runs.{some_injective}
 use Rattle.interp_local.specs.Operands.{AreFew}
-use Rattle.interp_local.specs.Steps.{IsPoint, IsServed, UsesPlain}
-
-NoPhi : Kind → Type 0
-NoPhi (Phi ty edges) = ⊥
-NoPhi _ = Unit {0}
+use Rattle.interp_local.specs.Steps.{IsSized, AreSized}
 
 module _ (m : Module) where
-  abbrev Fine : Kind → Type 0
-  Fine k = IsServed m k × NoPhi k
-
   abbrev AllFine : List Inst → Type 0
-  AllFine is = (n : ℕ) (i : Inst) → slice_get is n ≡ Some i → IsServed m i.kind × NoPhi i.kind
-
-  -- ---- calls
-
-  init_point : (v : Value) → is_function target_init v ≡ true → IsPoint (callee_of m v)
-  init_point (GlobalValue x) e = subst (λ b. IsPoint (if b then CallsInit else if bytes_eq x target_deinit then CallsDeinit else defined_at m (function_place m x))) (sym e) tt
-  init_point (IntValue n) e = let f : ⊥ = cc in absurd f
-  init_point Null e = let f : ⊥ = cc in absurd f
-  init_point (Register x) e = let f : ⊥ = cc in absurd f
-
-  deinit_by : (b : Bool) (c : Callee) (x : Name) → bytes_eq x target_deinit ≡ true → IsPoint (if b then CallsInit else if bytes_eq x target_deinit then CallsDeinit else c)
-  deinit_by true c x e = tt
-  deinit_by false c x e = subst (λ d. IsPoint (if d then CallsDeinit else c)) (sym e) tt
-
-  deinit_point : (v : Value) → is_function target_deinit v ≡ true → IsPoint (callee_of m v)
-  deinit_point (GlobalValue x) e = deinit_by (bytes_eq x target_init) (defined_at m (function_place m x)) x e
-  deinit_point (IntValue n) e = let f : ⊥ = cc in absurd f
-  deinit_point Null e = let f : ⊥ = cc in absurd f
-  deinit_point (Register x) e = let f : ⊥ = cc in absurd f
+  AllFine is = (n : ℕ) (i : Inst) → slice_get is n ≡ Some i → IsSized m i.kind
 
   -- ---- instructions
 
-  fine_init : (flag : Bool) (k : Kind) → is_init_kind flag k ≡ true → IsServed m k × NoPhi k
-  unfolding NoPhi
-  fine_init flag (Call Absent ret callee operands) e =
-      let p = and_parts (is_int_of 32 ret && is_function target_init callee) (is_init_operands flag operands) e in (init_point callee (and_parts (is_int_of 32 ret) (is_function target_init callee) p.0).1, tt)
+  fine_init : (flag : Bool) (k : Kind) → is_init_kind flag k ≡ true → IsSized m k
+  fine_init flag (Call Absent ret callee operands) e = tt
   fine_init flag _ e = let f : ⊥ = cc in absurd f
 
-  fine_deinit : (k : Kind) → is_deinit_kind k ≡ true → IsServed m k × NoPhi k
-  unfolding NoPhi
-  fine_deinit (Call Absent ret callee operands) e =
-      let p = and_parts (is_void ret && is_function target_deinit callee) (is_deinit_operands operands) e in (deinit_point callee (and_parts (is_void ret) (is_function target_deinit callee) p.0).1, tt)
+  fine_deinit : (k : Kind) → is_deinit_kind k ≡ true → IsSized m k
+  fine_deinit (Call Absent ret callee operands) e = tt
   fine_deinit _ e = let f : ⊥ = cc in absurd f
 
-  fine_test : (x : Name) (k : Kind) → is_test_kind x k ≡ true → IsServed m k × NoPhi k
-  unfolding NoPhi
-  fine_test x (ICmp Eq ty a b) e = (tt, tt)
+  fine_test : (x : Name) (k : Kind) → is_test_kind x k ≡ true → IsSized m k
+  fine_test x (ICmp Eq ty a b) e = tt
   fine_test x _ e = let f : ⊥ = cc in absurd f
 
-  fine_branch : (x user exit : Name) (k : Kind) → is_branch_kind x user exit k ≡ true → IsServed m k × NoPhi k
-  unfolding NoPhi
-  fine_branch x user exit (CondBr c then_to else_to) e = (tt, tt)
+  fine_branch : (x user exit : Name) (k : Kind) → is_branch_kind x user exit k ≡ true → IsSized m k
+  fine_branch x user exit (CondBr c then_to else_to) e = tt
   fine_branch x user exit _ e = let f : ⊥ = cc in absurd f
 
-  fine_return : (k : Kind) → is_return_kind k ≡ true → IsServed m k × NoPhi k
-  unfolding NoPhi
-  fine_return (Ret None) e = (tt, tt)
+  fine_return : (k : Kind) → is_return_kind k ≡ true → IsSized m k
+  fine_return (Ret None) e = tt
   fine_return _ e = let f : ⊥ = cc in absurd f
 
-  fine_user : (o : Option Name) (k : Kind) → is_user_kind o k ≡ true → IsServed m k × NoPhi k
-  unfolding NoPhi
-  fine_user (Some x) (Bin op flags ty a b) e = (tt, tt)
-  fine_user (Some x) (Load ty at order align) e = (tt, tt)
-  fine_user None (Store value at order align) e = (tt, tt)
+  fine_user : (o : Option Name) (k : Kind) → is_user_kind o k ≡ true → IsSized m k
+  fine_user (Some x) (Bin op flags ty a b) e = tt
+  fine_user (Some x) (Load ty at order align) e = tt
+  fine_user None (Store value at order align) e = tt
   fine_user None _ e = let f : ⊥ = cc in absurd f
   fine_user (Some x) _ e = let f : ⊥ = cc in absurd f
 
@@ -94,8 +61,8 @@ module _ (m : Module) where
   no_inst : AllFine []
   no_inst n i e = let f : ⊥ = cc in absurd f
 
-  more : (j : Inst) (is : List Inst) → IsServed m j.kind × NoPhi j.kind → AllFine is → AllFine (j ∷ is)
-  more j is fine rest zero i e = subst (λ (v : Inst). IsServed m v.kind × NoPhi v.kind) (some_injective e) fine
+  more : (j : Inst) (is : List Inst) → IsSized m j.kind → AllFine is → AllFine (j ∷ is)
+  more j is fine rest zero i e = subst (λ (v : Inst). IsSized m v.kind) (some_injective e) fine
   more j is fine rest (suc n) i e = rest n i e
 
   both_parts : (k : ℕ) (is : List Inst) → AllFine (take k is) → AllFine (drop k is) → AllFine is
@@ -144,13 +111,13 @@ module _ (m : Module) where
   -- ---- blocks
 
   abbrev BlocksFine : List Block → Type 0
-  BlocksFine bs = (k : ℕ) (b : Block) → slice_get bs k ≡ Some b → (n : ℕ) (i : Inst) → slice_get b.insts n ≡ Some i → IsServed m i.kind × NoPhi i.kind
+  BlocksFine bs = (k : ℕ) (b : Block) → slice_get bs k ≡ Some b → (n : ℕ) (i : Inst) → slice_get b.insts n ≡ Some i → IsSized m i.kind
 
   no_block : BlocksFine []
   no_block k b e = let f : ⊥ = cc in absurd f
 
   block_more : (a : Block) (bs : List Block) → AllFine a.insts → BlocksFine bs → BlocksFine (a ∷ bs)
-  block_more a bs fine rest zero b e = subst (λ (v : Block). (n : ℕ) (i : Inst) → slice_get v.insts n ≡ Some i → IsServed m i.kind × NoPhi i.kind) (some_injective e) fine
+  block_more a bs fine rest zero b e = subst (λ (v : Block). (n : ℕ) (i : Inst) → slice_get v.insts n ≡ Some i → IsSized m i.kind) (some_injective e) fine
   block_more a bs fine rest (suc k) b e = rest k b e
 
   kernel_blocks : (flag : Bool) (bs : List Block) → are_kernel_blocks flag bs ≡ true → BlocksFine bs
@@ -168,7 +135,7 @@ module _ (m : Module) where
   empty_blocks (b ∷ bs) e = let f : ⊥ = cc in absurd f
 
   abbrev FunctionsFine : List Function → Type 0
-  FunctionsFine fs = (f k : ℕ) (b : Block) → block_in (slice_get fs f) k ≡ Some b → (n : ℕ) (i : Inst) → slice_get b.insts n ≡ Some i → IsServed m i.kind × NoPhi i.kind
+  FunctionsFine fs = (f k : ℕ) (b : Block) → block_in (slice_get fs f) k ≡ Some b → (n : ℕ) (i : Inst) → slice_get b.insts n ≡ Some i → IsSized m i.kind
 
   no_function : FunctionsFine []
   no_function f k b e = let g : ⊥ = cc in absurd g
@@ -196,32 +163,19 @@ module _ (m : Module) where
 
   -- ---- the module
 
-  no_phis : (x : Option Name) (k : Kind) (phis : List PhiNode) → NoPhi k → with_phi x k phis ≡ []
-  unfolding NoPhi
-  no_phis x (Phi ty edges) phis none = absurd none
-  no_phis x _ phis none = refl
-
-  first_phis : (is : List Inst) → AllFine is → leading_phis is ≡ []
-  first_phis [] fine = refl
-  first_phis (i ∷ is) fine = no_phis i.result i.kind (leading_phis is) (fine 0 i refl).1
-
-  phis_by : (o : Option Block) → ((b : Block) → o ≡ Some b → AllFine b.insts) → phis_in o ≡ []
-  phis_by None fine = refl
-  phis_by (Some b) fine = first_phis b.insts (fine b refl)
-
-  inst_by : (o : Option Block) (n : ℕ) (i : Inst) → ((b : Block) → o ≡ Some b → AllFine b.insts) → inst_in o n ≡ Some i → IsServed m i.kind
+  inst_by : (o : Option Block) (n : ℕ) (i : Inst) → ((b : Block) → o ≡ Some b → AllFine b.insts) → inst_in o n ≡ Some i → IsSized m i.kind
   inst_by None n i fine e = let f : ⊥ = cc in absurd f
-  inst_by (Some b) n i fine e = (fine b refl n i e).0
+  inst_by (Some b) n i fine e = fine b refl n i e
 
-  pub plain_form : HasOutForm m → AreFew m × UsesPlain m
-  plain_form h =
+  pub sized_form : HasOutForm m → AreFew m × AreSized m
+  sized_form h =
       let p = and_parts (only_functions m) (are_functions h.0 m.functions) h.1 in
       let q = functions_fine h.0 m.functions p.1 in
       let few = q.1 in
       let lines = and_parts (empty m.prelude && empty m.types && empty m.globals) (empty m.tail) p.0 in
       let globals = few_globals m.globals (and_parts (empty m.prelude && empty m.types) (empty m.globals) lines.0).1 in (
         record { globals = omega arith; functions = omega arith },
-        record { kinds = λ at i e. inst_by (block_in (slice_get m.functions at.function) at.block) at.index i (q.0 at.function at.block) e; phis = λ k b. phis_by (block_in (slice_get m.functions k) b) (q.0 k b) },
+        record { kinds = λ at i e. inst_by (block_in (slice_get m.functions at.function) at.block) at.index i (q.0 at.function at.block) e },
       )
     where
       few_globals : {A : Type 0} (xs : List A) → empty xs ≡ true → length xs ≤ 0

@@ -1,5 +1,8 @@
+pub mod Branches
 pub mod Decides
+pub mod Entered
 pub mod FirstForms
+pub mod Jumps
 pub mod Looks
 pub mod Moved
 pub mod Nexts

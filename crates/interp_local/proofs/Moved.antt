@@ -2,16 +2,15 @@
 use Rattle.std.proofs.Common.{◌≡◌, ℕ, List, [], ◌∷◌, map, take, drop, reverse, ◌-◌, false, Some, None, Result, Ok, Err, refl, sym, ap, ◌∙◌, subst, arith, cond, length}
 use Rattle.std.proofs.lemmas.Bool.Decides.{nat_tests}
 use Rattle.ir_core.specs.declared.module.Module.{Module}
-use Rattle.ir_core.specs.Places.{PhiNode, label_at}
 use Rattle.mem_model.specs.declared.memory.Byte.{Byte}
 use Rattle.mem_model.specs.declared.step.Trap.{Trap}
 use Rattle.mem_model.specs.Thread.{Code, Frame, ThreadState, same_spot, or_else, find_block, find_in, put_in}
-use Rattle.mem_model.specs.Next.{NextStep, Local, with_found, with_frames, code_past, with_phis, enters}
+use Rattle.mem_model.specs.Next.{NextStep, Local, with_found, with_frames, code_past}
 use Rattle.thread_state.specs.declared.state.Frame.{Frame as FrameData}
 use Rattle.thread_state.specs.declared.state.StackBlock.{StackBlock}
 use Rattle.thread_state.specs.declared.state.ThreadState.{ThreadState as ThreadData}
 use Rattle.thread_state.specs.Seen.{block_seen, blocks_seen, frames_seen, thread_seen, IsThread}
-use Rattle.thread_state.specs.Moves.{on_first, on_innermost, Moves, code_at}
+use Rattle.thread_state.specs.Moves.{on_first, on_innermost, Moves}
 use Rattle.thread_state.specs.Stored.{own_block, IsStored}
 use Rattle.thread_state.proofs.Stacks.{map-reverse}
 use Rattle.interp_local.specs.declared.steps.Own.{Own}
@@ -23,9 +22,9 @@ use Rattle.interp_local.specs.Steps.{IsOwn}
 pub went : {A : Type 0} (m : Module) (old new : ThreadData) (r : Result A Trap) (go : A → NextStep) (a : A) → r ≡ Ok a → IsOwn m old new (go a) (Ok Went) → IsOwn m old new (with_found r go) (Ok Went)
 went m old new r go a e h = subst (λ x. IsOwn m old new (with_found x go) (Ok Went)) (sym e) h
 
-pub trapped : {A : Type 0} (m : Module) (s : ThreadData) (r : Result A Trap) (go : A → NextStep) (e : Trap) (result : Result Own Trap) → r ≡ Err e → result ≡ Err e → IsOwn m s s (with_found r go) result
-trapped m s r go e result is same =
-    subst (λ x. IsOwn m s s (with_found r go) x) (sym same) (subst (λ x. IsOwn m s s (with_found x go) (Err e)) (sym is) (refl, refl))
+pub trapped : {A : Type 0} (m : Module) (s : ThreadData) (r : Result A Trap) (go : A → NextStep) (e : Trap) (result : Result Own Trap) → IsThread m s → r ≡ Err e → result ≡ Err e → IsOwn m s s (with_found r go) result
+trapped m s r go e result thread is same =
+    subst (λ x. IsOwn m s s (with_found r go) x) (sym same) (subst (λ x. IsOwn m s s (with_found x go) (Err e)) (sym is) (refl, (thread, refl)))
 
 -- ---- the innermost call moved on
 
@@ -67,10 +66,10 @@ stored_err : (U : Type 0) (m : Module) (number : ℕ) (old mid : ThreadData) (r 
 stored_err U m number old mid (Ok bytes) e h = let q = h.0 in let f : ⊥ = cc in absurd f
 stored_err U m number old mid (Err x) e h = (ap Err (let q = h.0 in let same : x ≡ e = cc in same), h.1)
 
-pub not_stored : (U : Type 0) (m : Module) (t number : ℕ) (old mid : ThreadData) (r : Result (List Byte) Trap) (go : List Byte → NextStep) (e : Trap) (result : Result Own Trap) → IsStored {U = U} r m number old mid (Err e) → result ≡ Err e → IsOwn m old mid (with_found r go) result
-not_stored U m t number old mid r go e result h same =
+pub not_stored : (U : Type 0) (m : Module) (t number : ℕ) (old mid : ThreadData) (r : Result (List Byte) Trap) (go : List Byte → NextStep) (e : Trap) (result : Result Own Trap) → IsThread m old → IsStored {U = U} r m number old mid (Err e) → result ≡ Err e → IsOwn m old mid (with_found r go) result
+not_stored U m t number old mid r go e result thread h same =
     let p = stored_err U m number old mid r e h in
-    subst (λ s. IsOwn m old s (with_found r go) result) (sym p.1) (trapped m old r go e result p.0 same)
+    subst (λ s. IsOwn m old s (with_found r go) result) (sym p.1) (trapped m old r go e result thread p.0 same)
 
 pub stored : {U : Type 0} (m : Module) (t number : ℕ) (old mid new : ThreadData) (r : Result (List Byte) Trap) (u : U) (f : Frame) (rest : List Frame) → (thread_seen m old).frames ≡ f ∷ rest → t ≡ old.own → IsStored r m number old mid (Ok u) → (IsThread m mid → Moves code_past m mid new) →
     IsOwn m old new (with_found r (λ bytes. Local (with_frames (thread_seen m old) (put_in (t, number) bytes (record f { code = code_past f.code } ∷ rest))))) (Ok Went)
@@ -80,10 +79,3 @@ stored m t number old mid new r u f rest frames same h goes =
     let seen : thread_seen m new ≡ with_frames (thread_seen m old) (put_in (t, number) p.0 (record f { code = code_past f.code } ∷ rest)) =
     q.1 ∙ ap (on_innermost code_past) p.3 ∙ (λ i. with_frames (thread_seen m old) (on_first code_past (put_in (sym same i, number) p.0 (frames i)))) in
     went m old new r _ p.0 p.1 (q.0, seen)
-
--- ---- branches without phis
-
-pub entered : (m : Module) (t : ThreadState) (f : Frame) (rest : List Frame) (b : ℕ) (old new : ThreadData) (phis : List PhiNode) → phis ≡ [] → IsOwn m old new (Local (with_frames t (record f { code = code_at b 0 f.code } ∷ rest))) (Ok Went) →
-    IsOwn m old new (with_found (with_phis m f.code.registers (label_at m f.code.at) phis f.code.registers) (enters t f rest (record { function = f.code.at.function; block = b; index = length phis }))) (Ok Went)
-entered m t f rest b old new phis none h =
-    subst (λ ps. IsOwn m old new (with_found (with_phis m f.code.registers (label_at m f.code.at) ps f.code.registers) (enters t f rest (record { function = f.code.at.function; block = b; index = length ps }))) (Ok Went)) (sym none) h

@@ -8,10 +8,11 @@ use Rattle.ir_core.specs.declared.instructions.Inst.{Inst}
 use Rattle.ir_core.specs.declared.module.Module.{Module}
 use Rattle.ir_core.specs.declared.module.Function.{Function}
 use Rattle.ir_core.specs.declared.module.Block.{Block}
-use Rattle.ir_core.specs.Places.{Name, block_in, inst_in, place_from, place_in, param_name, inst_results, block_results, register_names_of}
+use Rattle.ir_core.specs.Places.{Name, block_in, inst_in, place_from, place_in, param_name, inst_results, block_results, register_names_of, register_names}
 use Rattle.thread_state.specs.declared.state.Frame.{Frame as FrameData}
 use Rattle.thread_state.specs.declared.state.ThreadState.{ThreadState as ThreadData}
 use Rattle.thread_state.specs.Moves.{first_names, names_of, IsPlaceOf}
+use Rattle.interp_local.specs.Phis.{HavePlaces}
 use Rattle.interp_local.specs.Steps.{first_inst, inst_of}
 
 -- the name stands in the list
@@ -74,3 +75,7 @@ result_at m (g ∷ outer) i x at r = in_function (slice_get m.functions g.functi
 
 pub result_is : (m : Module) (s : ThreadData) (i : Inst) (x : Name) → inst_of m s ≡ Some i → i.result ≡ Some x → IsPlaceOf (names_of m s) (Some x) (place_in (names_of m s) x)
 result_is m s i x at r = place_is (names_of m s) x (result_at m (reverse s.frames.items) i x at r)
+
+-- so has each result in a block
+pub block_places : (m : Module) (k b : ℕ) (block : Block) → block_in (slice_get m.functions k) b ≡ Some block → HavePlaces (register_names m k) block.insts
+block_places m k b block is n i x at r = has_place 0 (register_names m k) x (in_function (slice_get m.functions k) b n i x (ap (λ o. inst_in o n) is ∙ at) r)

@@ -21,7 +21,7 @@ count_frames m own stack end (f ∷ outer) = ap suc (count_frames m own stack f.
 pub count_calls : (m : Module) (s : ThreadData) → length (thread_seen m s).frames ≡ length s.frames.items
 count_calls m s = count_frames m s.own s.stack.items (length s.stack.items) (reverse s.frames.items) ∙ length-reverse s.frames.items
 
-back_of : (m : Module) (outer : List FrameData) → back_seen m outer ≡ result_of (first_inst m outer)
+pub back_of : (m : Module) (outer : List FrameData) → back_seen m outer ≡ result_of (first_inst m outer)
 back_of m [] = refl
 back_of m (c ∷ outer) = refl
 

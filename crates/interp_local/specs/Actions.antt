@@ -1,27 +1,30 @@
 -- What an instruction does, once its operands are read.
-use Rattle.std.specs.Prelude.{◌≡◌, ℕ, ◌^◌, ◌<◌, List, [], ◌∷◌, reverse, Option, Some, None, Result, Ok, Err, true, if◌then◌else◌, ◌==◌}
+use Rattle.std.specs.Prelude.{◌≡◌, ℕ, ◌^◌, ◌<◌, ◌≤◌, nat_le, List, [], ◌∷◌, reverse, Option, Some, None, Result, Ok, Err, true, if◌then◌else◌, ◌==◌}
 use Rattle.ir_core.specs.declared.types.Ty.{Ty}
 use Rattle.ir_core.specs.declared.instructions.Typed.{Typed}
 use Rattle.ir_core.specs.declared.instructions.Case.{Case}
 use Rattle.ir_core.specs.declared.instructions.RmwOp.{RmwOp}
 use Rattle.ir_core.specs.declared.instructions.Kind.{Kind}
-use Rattle.ir_core.specs.declared.instructions.Kind.TheVariants.{Bin, ICmp, Select, Load as LoadInst, Store as StoreInst, Rmw, Fence, Call, Br, CondBr, Switch, Ret}
+use Rattle.ir_core.specs.declared.instructions.Kind.TheVariants.{Bin, ICmp, Cast, Select, Alloca, Load as LoadInst, Store as StoreInst, Rmw, Fence, Call, Br, CondBr, Switch, Ret}
 use Rattle.ir_core.specs.declared.module.Module.{Module}
 use Rattle.ir_core.specs.FirstForm.{is_width}
 use Rattle.ir_core.specs.Places.{labels, place_in}
+use Rattle.ir_core.specs.Layout.{Size}
+use Rattle.mem_model.specs.Memory.{block_limit}
 use Rattle.mem_model.specs.declared.memory.Word.{Word}
 use Rattle.mem_model.specs.declared.memory.Word.TheVariants.{Int}
 use Rattle.mem_model.specs.declared.step.Trap.{Trap}
-use Rattle.mem_model.specs.declared.step.Trap.TheVariants.{Unreachable}
+use Rattle.mem_model.specs.declared.step.Trap.TheVariants.{Unreachable, TooLarge}
 use Rattle.mem_model.specs.Answers.{IsCell, IsOf}
 use Rattle.mem_model.specs.Thread.{Name, Registers, Frame, ThreadState, where_is}
 use Rattle.mem_model.specs.Values.{width_of, value_word, operand, and_then}
-use Rattle.mem_model.specs.Next.{NextStep, Local, Pending, Trapped, Deinit as DeinitEvent, goes_on, goes_past, loads, stores, updates, case_for, to_block, Callee, CallsInit, CallsDeinit, CallsFunction, CallsOther, defined_at, callee_of, next_call, returns}
+use Rattle.mem_model.specs.Next.{NextStep, Local, Pending, Trapped, Deinit as DeinitEvent, goes_on, goes_past, loads, stores, updates, allocates, case_for, to_block, Callee, CallsInit, CallsDeinit, CallsFunction, CallsOther, defined_at, callee_of, next_call, returns}
 use Rattle.thread_state.specs.declared.state.Frame.{Frame as FrameData}
 use Rattle.thread_state.specs.declared.state.ThreadState.{ThreadState as ThreadData}
+use Rattle.interp_local.specs.declared.actions.Change.{Change}
 use Rattle.interp_local.specs.declared.actions.Action.{Action}
-use Rattle.interp_local.specs.declared.actions.Action.TheVariants.{Gives, Passes, Loads, Stores, Updates, Deinit, Calls, Jumps, Returns}
-use Rattle.interp_local.specs.Operands.{number, pointer, cell, or_unreachable, binary, comparison, selection}
+use Rattle.interp_local.specs.declared.actions.Action.TheVariants.{Gives, Passes, Loads, Stores, Updates, Allocates, Deinit, Calls, Jumps, Returns}
+use Rattle.interp_local.specs.Operands.{number, pointer, cell, or_unreachable, binary, comparison, conversion, selection}
 
 abbrev pub first_function : List FrameData → ℕ
 first_function [] = 0
@@ -57,7 +60,7 @@ abbrev pub store_action : Module → Registers → Typed → Typed → Result Ac
 store_action m r value at = and_then (operand m r value.ty value.value) (λ word. and_then (pointer m r at.ty at.value) (λ p. and_then (cell value.ty) (λ c. Ok (Stores p c word))))
 
 abbrev pub update_action : Module → Registers → RmwOp → Typed → Typed → Result Action Trap
-update_action m r op at value = and_then (pointer m r at.ty at.value) (λ p. and_then (number m r value.ty value.value) (λ n. Ok (Updates p (width_of value.ty) op n)))
+update_action m r op at value = and_then (pointer m r at.ty at.value) (λ p. and_then (number m r value.ty value.value) (λ n. Ok (Updates p (record { width = width_of value.ty; op = op; number = n }))))
 
 abbrev pub branch_action : Module → ℕ → Registers → Typed → Name → Name → Result Action Trap
 branch_action m k r c then_to else_to = and_then (number m r c.ty c.value) (λ n. jump m k (if n == 0 then else_to else then_to))
@@ -69,10 +72,16 @@ abbrev pub return_action : Module → Registers → Option Typed → Result Acti
 return_action m r None = Ok (Returns None)
 return_action m r (Some v) = and_then (value_word m r v.value) (λ word. Ok (Returns (Some word)))
 
+-- a new block of so many bytes
+abbrev pub block_action : ℕ → Result Action Trap
+block_action size = if nat_le size block_limit then Ok (Allocates size) else Err TooLarge
+
 -- by the registers of the innermost call, the place of its function, and what __kmpc_target_init answers
 abbrev pub action_of : Module → ℕ → Registers → ℕ → Kind → Result Action Trap
 action_of m k r init (Bin op flags ty a b) = gives (binary m r op flags ty a b)
 action_of m k r init (ICmp pred ty a b) = gives (comparison m r pred ty a b)
+action_of m k r init (Cast op from to) = gives (conversion m r op from to)
+action_of m k r init (Alloca ty align) = block_action (Size m.types ty)
 action_of m k r init (Select c a b) = gives (selection m r c a b)
 action_of m k r init (LoadInst ty at order align) = load_action m r ty at
 action_of m k r init (StoreInst value at order align) = store_action m r value at
@@ -85,18 +94,23 @@ action_of m k r init (Switch on other cases) = switch_action m k r on other case
 action_of m k r init (Ret value) = return_action m r value
 action_of m k r init _ = Err Unreachable
 
--- an access is of a cell, and a word that is stored is of it
+-- a change of an integer of a width, by a number of it
+abbrev pub IsChange : Change → Type 0
+IsChange change = (is_width change.width ≡ true) × (change.number < 2 ^ change.width)
+
+-- an access is of a cell, a word that is stored is of it, and a new block is no larger than a block may be
 abbrev pub IsAction : Action → Type 0
 IsAction (Loads at c) = IsCell c
 IsAction (Stores at c word) = IsCell c × IsOf c word
-IsAction (Updates at width op n) = (is_width width ≡ true) × (n < 2 ^ width)
+IsAction (Updates at change) = IsChange change
+IsAction (Allocates size) = size ≤ block_limit
 IsAction _ = Unit {0}
 
--- no atomic change, and no call of a function with blocks
-abbrev pub IsPlain : Action → Type 0
-IsPlain (Updates at width op n) = ⊥
-IsPlain (Calls k) = ⊥
-IsPlain _ = Unit {0}
+-- takes memory: a call of a function with blocks, or a new block of the stack
+abbrev pub TakesRoom : Action → Type 0
+TakesRoom (Calls k) = Unit {0}
+TakesRoom (Allocates size) = Unit {0}
+TakesRoom _ = ⊥
 
 -- ---- what an action is
 
@@ -106,7 +120,8 @@ acted m t f rest x args (Gives word) = Local (goes_on t f rest x word)
 acted m t f rest x args Passes = Local (goes_past t f rest)
 acted m t f rest x args (Loads at cell) = loads t f rest x cell (where_is at)
 acted m t f rest x args (Stores at cell word) = stores t f rest cell word (where_is at)
-acted m t f rest x args (Updates at width op n) = updates t f rest x width op n (where_is at)
+acted m t f rest x args (Updates at change) = updates t f rest x change.width change.op change.number (where_is at)
+acted m t f rest x args (Allocates size) = allocates t f rest x size
 acted m t f rest x args Deinit = Pending DeinitEvent
 acted m t f rest x args (Calls k) = next_call m t f rest x args (defined_at m (Some k))
 acted m t f rest x args (Jumps b) = to_block m t f rest (Some b)

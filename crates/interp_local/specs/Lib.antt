@@ -1,4 +1,6 @@
 pub mod Actions
+pub mod Calls
 pub mod Operands
+pub mod Phis
 pub mod Steps
 pub mod Runs

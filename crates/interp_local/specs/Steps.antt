@@ -2,29 +2,32 @@
 use Rattle.std.specs.Prelude.{◌≡◌, ℕ, List, [], ◌∷◌, reverse, Option, Some, None, Result, Ok, Err}
 use Rattle.ir_core.specs.declared.instructions.Inst.{Inst}
 use Rattle.ir_core.specs.declared.instructions.Kind.{Kind}
-use Rattle.ir_core.specs.declared.instructions.Kind.TheVariants.{Cast, Alloca, Rmw, Gep, Call}
+use Rattle.ir_core.specs.declared.instructions.Kind.TheVariants.{Alloca, Gep, Call}
 use Rattle.ir_core.specs.declared.module.Module.{Module}
-use Rattle.ir_core.specs.Places.{Place, inst_at, phis_at}
+use Rattle.ir_core.specs.declared.answers.Or.{Or}
+use Rattle.ir_core.specs.declared.answers.Or.TheVariants.{Refused, Memory as WantOfMemory}
+use Rattle.ir_core.specs.Layout.{WellFormed}
+use Rattle.ir_core.specs.Places.{Place, inst_at}
 use Rattle.mem_model.specs.declared.memory.Word.{Word}
 use Rattle.mem_model.specs.declared.step.Trap.{Trap}
 use Rattle.mem_model.specs.declared.memory.Ptr.{Ptr}
 use Rattle.mem_model.specs.Thread.{Name, Frame, ThreadState, Where, InStack, Elsewhere as ElsewhereAt}
-use Rattle.mem_model.specs.Next.{NextStep, Local, Pending, Done, Trapped, goes_on, goes_past, Callee, CallsFunction, callee_of}
+use Rattle.mem_model.specs.Next.{NextStep, Local, Pending, Done, Trapped, goes_on, goes_past, Callee, CallsFunction, callee_of, Next}
 use Rattle.thread_state.specs.declared.state.Frame.{Frame as FrameData}
 use Rattle.thread_state.specs.declared.state.ThreadState.{ThreadState as ThreadData}
-use Rattle.thread_state.specs.Seen.{thread_seen, place_seen, IsThread}
+use Rattle.thread_state.specs.Seen.{thread_seen, place_seen, IsThread, IsSeen}
 use Rattle.thread_state.specs.Moves.{names_of, IsPlaceOf}
 use Rattle.interp_local.specs.declared.steps.Part.{Part}
 use Rattle.interp_local.specs.declared.steps.Part.TheVariants.{Stack, Elsewhere}
 use Rattle.interp_local.specs.declared.steps.Own.{Own}
 use Rattle.interp_local.specs.declared.steps.Own.TheVariants.{Went, Event, Done as HasEnded}
 
--- the step was made, or nothing has changed
+-- the step was made, or nothing has changed; at a trap the state means what it did
 abbrev pub IsOwn : Module → ThreadData → ThreadData → NextStep → Result Own Trap → Type 0
 IsOwn m old new (Local u) (Ok Went) = IsThread m new × (thread_seen m new ≡ u)
 IsOwn m old new (Pending e) (Ok Event) = new ≡ old
 IsOwn m old new Done (Ok HasEnded) = new ≡ old
-IsOwn m old new (Trapped x) (Err y) = (x ≡ y) × (new ≡ old)
+IsOwn m old new (Trapped x) (Err y) = (x ≡ y) × IsSeen m new (thread_seen m old)
 IsOwn m old new _ _ = ⊥
 
 abbrev pub first_inst : Module → List FrameData → Option Inst
@@ -51,21 +54,48 @@ abbrev pub behind : ThreadState → Frame → List Frame → Option Name → Opt
 behind t f rest back None = goes_past t f rest
 behind t f rest back (Some word) = goes_on t f rest back word
 
--- ---- the instructions that are served
+-- ---- steps that may want memory
 
-abbrev pub IsPoint : Callee → Type 0
-IsPoint (CallsFunction k params) = ⊥
-IsPoint _ = Unit {0}
+abbrev pub IsDefined : Callee → Type 0
+IsDefined (CallsFunction k params) = Unit {0}
+IsDefined _ = ⊥
 
-abbrev pub IsServed : Module → Kind → Type 0
-IsServed m (Cast op from to) = ⊥
-IsServed m (Alloca ty align) = ⊥
-IsServed m (Rmw op at value order align) = ⊥
-IsServed m (Gep inbounds ty base path) = ⊥
-IsServed m (Call tail_word ret callee operands) = IsPoint (callee_of m callee)
-IsServed m _ = Unit {0}
+-- a call of a function with blocks, or a new block of the stack
+abbrev pub TakesMemory : Module → Kind → Type 0
+TakesMemory m (Alloca ty align) = Unit {0}
+TakesMemory m (Call tail_word ret callee operands) = IsDefined (callee_of m callee)
+TakesMemory m _ = ⊥
 
--- no phi, no conversion, block of a stack, atomic change or getelementptr, and no call of a function with blocks
-pub record UsesPlain (m : Module) : Type 0 where
-  pub kinds : (p : Place) (i : Inst) → inst_at m p ≡ Some i → IsServed m i.kind
-  pub phis : (k b : ℕ) → phis_at m k b ≡ []
+abbrev pub InstTakes : Module → Option Inst → Type 0
+InstTakes m None = ⊥
+InstTakes m (Some i) = TakesMemory m i.kind
+
+abbrev pub FramesTake : Module → List Frame → Type 0
+FramesTake m [] = ⊥
+FramesTake m (f ∷ rest) = InstTakes m (inst_at m f.code.at)
+
+-- the instruction at which the thread stands takes memory
+abbrev pub StandsAtTaking : Module → ThreadState → Type 0
+StandsAtTaking m t = FramesTake m t.frames
+
+-- the step was made or not, as `IsOwn` says; or memory was wanting, and the state means what it did
+abbrev pub IsTried : Type 0 → Module → ThreadData → ThreadData → NextStep → Result Own (Or Trap) → Type 0
+IsTried wants m old new nx (Ok own) = IsOwn m old new nx (Ok own)
+IsTried wants m old new nx (Err (Refused trap)) = IsOwn m old new nx (Err trap)
+IsTried wants m old new nx (Err WantOfMemory) = IsSeen m new (thread_seen m old) × wants
+
+-- memory wants only where the thread stands at an instruction that takes some
+abbrev pub IsNext : Module → ThreadData → ThreadData → Result Own (Or Trap) → Type 0
+IsNext m old new result = IsTried (StandsAtTaking m (thread_seen m old)) m old new (Next m (thread_seen m old)) result
+
+-- ---- modules whose types have sizes
+
+-- the type of a new block of the stack has a size; no getelementptr
+abbrev pub IsSized : Module → Kind → Type 0
+IsSized m (Alloca ty align) = WellFormed m.types ty
+IsSized m (Gep inbounds ty base path) = ⊥
+IsSized m _ = Unit {0}
+
+-- the types of which instructions need the size have one, as in every checked module
+pub record AreSized (m : Module) : Type 0 where
+  pub kinds : (p : Place) (i : Inst) → inst_at m p ≡ Some i → IsSized m i.kind

@@ -2,17 +2,27 @@
 ghost use Rattle.std.specs.Prelude.{◌≡◌, ℕ, IfOk, Some, Ok, Err, ◌==◌, if◌then◌else◌};
 ghost use Rattle.ir_core.specs.EntryPoints.{target_init, target_deinit};
 ghost use Rattle.ir_core.specs.Places.{function_place};
+ghost use Rattle.ir_core.specs.Layout.{WellFormed, Size};
 ghost use Rattle.mem_model.specs.Next.{defined_at, callee_of, is_case, case_for};
 ghost use Rattle.interp_local.specs.Operands.{AreFew, registers};
-ghost use Rattle.interp_local.specs.Actions.{IsAction, gives, action_of, call_action, jump, function_of, load_action, store_action, update_action, branch_action, switch_action, return_action};
+ghost use Rattle.interp_local.specs.Steps.{IsSized};
+ghost use Rattle.interp_local.specs.Actions.{IsAction, gives, action_of, call_action, jump, function_of, load_action, store_action, update_action, block_action, branch_action, switch_action, return_action};
 
 use crate::operands::{
-    binary, cell, comparison, number, operand, pointer, selection, value_word, width_of,
+    binary, cell, comparison, conversion, number, operand, pointer, selection, value_word, width_of,
 };
 use ir_core::{Case, Kind, Name, RmwOp, Ty, Typed, Value};
 use ir_tables::Indexed;
 use mem_model::{Cell, Ptr, Trap, Word};
 use thread_state::ThreadState;
+
+/// An atomic change of a number with so many bits, by an operation and its operand.
+#[derive(Clone, Copy)]
+pub struct Change {
+    pub width: u32,
+    pub op: RmwOp,
+    pub number: u64,
+}
 
 /// What an instruction does.
 #[derive(Clone, Copy)]
@@ -23,8 +33,9 @@ pub enum Action {
     Passes,
     Loads(Ptr, Cell),
     Stores(Ptr, Cell, Word),
-    /// An atomic change of a number with so many bits.
-    Updates(Ptr, u32, RmwOp, u64),
+    Updates(Ptr, Change),
+    /// Makes a block of so many zero bytes in the own stack.
+    Allocates(u64),
     /// Calls `__kmpc_target_deinit`.
     Deinit,
     /// Calls the function at this place of the module.
@@ -35,7 +46,7 @@ pub enum Action {
 }
 
 /// The place of the function of the innermost call.
-fn function(s: &ThreadState) -> usize
+pub(crate) fn function(s: &ThreadState) -> usize
     ensures { result ≡ function_of s.now }
 {
     match s.frames.last() {
@@ -156,7 +167,28 @@ fn update(
 {
     let at = pointer(m, s, &at.ty, &at.value)?;
     let number = number(m, s, &value.ty, &value.value)?;
-    Ok(Action::Updates(at, width_of(&value.ty), op, number))
+    let change = Change {
+        width: width_of(&value.ty),
+        op,
+        number,
+    };
+    Ok(Action::Updates(at, change))
+}
+
+/// The largest block, in bytes.
+const BLOCK_LIMIT: u64 = 1_048_576;
+
+/// A new block of the stack.
+fn block_of(m: &Indexed, ty: &Ty) -> Result<Action, Trap>
+    requires { WellFormed m.now.types ty.now }
+    ensures value { result ≡ block_action (Size m.now.types ty.now) }
+    ensures is { IfOk result IsAction }
+{
+    let size = m.size_of(ty);
+    if size > BLOCK_LIMIT {
+        return Err(Trap::TooLarge);
+    }
+    Ok(Action::Allocates(size))
 }
 
 /// A branch by a condition.
@@ -215,7 +247,8 @@ fn give(found: Result<Word, Trap>) -> Result<Action, Trap>
 ///
 /// The trap of the first operand that can't be read, or of the operation.
 pub fn decide(m: &Indexed, s: &ThreadState, kind: &Kind) -> Result<Action, Trap>
-    requires { AreFew m.now }
+    requires few { AreFew m.now }
+    requires sized { IsSized m.now kind.now }
     ensures value { result ≡ action_of m.now (function_of s.now) (registers m.now s.now) s.now.answers.init kind.now }
     ensures is { IfOk result IsAction }
 {
@@ -228,7 +261,9 @@ pub fn decide(m: &Indexed, s: &ThreadState, kind: &Kind) -> Result<Action, Trap>
             b,
         } => give(binary(m, s, *op, *flags, ty, a, b)),
         Kind::ICmp { pred, ty, a, b } => give(comparison(m, s, *pred, ty, a, b)),
+        Kind::Cast { op, from, to } => give(conversion(m, s, *op, from, to)),
         Kind::Select { cond, a, b } => give(selection(m, s, cond, a, b)),
+        Kind::Alloca { ty, .. } => block_of(m, ty),
         Kind::Load { ty, at, .. } => load(m, s, ty, at),
         Kind::Store { value, at, .. } => store(m, s, value, at),
         Kind::Rmw { op, at, value, .. } => update(m, s, *op, at, value),

@@ -1,16 +1,18 @@
 //! The steps that a thread makes by itself, as the definition of the next step has them.
 //!
-//! `operands` reads operands, `actions` tells what an instruction does, `steps` does it,
-//! and `run` makes one step after another.
+//! `operands` reads operands, `actions` tells what an instruction does, `steps` does it, `phis` what a branch
+//! does and `calls` what takes memory, and `run` makes one step after another.
 #![tactic(auto)]
 
 mod actions;
+mod calls;
 mod first_form;
 mod operands;
+mod phis;
 mod run;
 mod steps;
 
-pub use actions::{Action, decide};
-pub use first_form::first_form_is_plain;
+pub use actions::{Action, Change, decide};
+pub use first_form::first_form_is_sized;
 pub use run::{Pause, Ran, local_run, look};
 pub use steps::{Own, inst_at, next, result_place};

@@ -11,7 +11,7 @@ ghost use Rattle.interp_local.specs.Operands.{AreFew, registers};
 
 use ir_core::{BinOp, CastOp, Flags, Name, Pred, Ty, Typed, Value};
 use ir_tables::Indexed;
-use mem_model::{BlockName, Cell, Ptr, Trap, Word, compare, eval, sign_extend};
+use mem_model::{BlockName, Cell, Ptr, Trap, Word, compare, eval, sign_extend, wrapped};
 use thread_state::ThreadState;
 
 /// The place of a register of the innermost call.
@@ -130,6 +130,7 @@ pub(crate) fn pointer(m: &Indexed, s: &ThreadState, ty: &Ty, value: &Value) -> R
 pub(crate) fn cell(ty: &Ty) -> Result<Cell, Trap>
     ensures value { result ≡ read.cell ty.now }
     ensures fits { IfOk result IsCell }
+    ensures narrow { IfOk result (λ c. spec.width_of ty.now ≤ 64) }
 {
     match ty {
         Ty::Int(width) if has_width(*width, 0) => Ok(Cell::Int(*width)),
@@ -201,6 +202,55 @@ pub(crate) fn comparison(
     match compare_words(pred, ty, a, b) {
         Some(holds) => Ok(Word::Int(u64::from(holds))),
         None => Err(Trap::Unreachable),
+    }
+}
+
+/// A number converted to a width.
+fn convert_number(op: CastOp, from: &Ty, to: u32, number: u64) -> Result<Word, Trap>
+    requires to { to ≤ 64 }
+    requires fits { spec.is_word_of from.now (Word.Int number) ≡ true }
+    ensures { result ≡ spec.converted op (spec.width_of from.now) to (Word.Int number) }
+{
+    match op {
+        CastOp::ZExt => Ok(Word::Int(number)),
+        CastOp::SExt => {
+            let signed = sign_extend(width_of(from), number);
+            Ok(Word::Int(wrapped(to, i128::from(signed))))
+        }
+        CastOp::Trunc => Ok(Word::Int(wrapped(to, i128::from(number)))),
+        CastOp::IntToPtr => Ok(Word::Ptr(Ptr::Num(number))),
+        CastOp::PtrToInt => Err(Trap::Unreachable),
+    }
+}
+
+/// A pointer converted to a width.
+fn convert_pointer(op: CastOp, to: u32, pointer: Ptr) -> Result<Word, Trap>
+    requires { to ≤ 64 }
+    ensures { (from : ℕ) → result ≡ spec.converted op from to (Word.Ptr pointer) }
+{
+    match (op, pointer) {
+        (CastOp::PtrToInt, Ptr::Num(number)) => Ok(Word::Int(wrapped(to, i128::from(number)))),
+        (CastOp::PtrToInt, Ptr::At(..)) => Err(Trap::NotNumber),
+        _ => Err(Trap::Unreachable),
+    }
+}
+
+/// The word of a conversion.
+pub(crate) fn conversion(
+    m: &Indexed,
+    s: &ThreadState,
+    op: CastOp,
+    from: &Typed,
+    to: &Ty,
+) -> Result<Word, Trap>
+    requires { AreFew m.now }
+    ensures { result ≡ read.conversion m.now (registers m.now s.now) op from.now to.now }
+{
+    let word = operand(m, s, &from.ty, &from.value)?;
+    let _cell = cell(to)?;
+    match word {
+        Word::Int(number) => convert_number(op, &from.ty, width_of(to), number),
+        Word::Ptr(pointer) => convert_pointer(op, width_of(to), pointer),
     }
 }
 

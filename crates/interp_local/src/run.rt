@@ -1,23 +1,26 @@
 //! A thread's own steps one after another, up to its next event.
-ghost use Rattle.std.specs.Prelude.{◌≡◌, ℕ, List, [], ◌∷◌, Option, Some, Ok, IsOkAnd};
+ghost use Rattle.std.specs.Prelude.{◌≡◌, ℕ, IsSome, List, [], ◌∷◌, Option, Some, Ok, Err, MatchResult};
 ghost use Rattle.ir_core.specs.declared.instructions.Typed.{Typed};
 ghost use Rattle.ir_core.specs.declared.module.Module.{Module};
-ghost use Rattle.ir_core.specs.Places.{Name, phis_at};
+ghost use Rattle.ir_core.specs.Places.{Name};
 ghost use Rattle.mem_model.specs.Answers.{IsCell};
 ghost use Rattle.mem_model.specs.declared.memory.Word.{Word as SpecWord};
 ghost use Rattle.mem_model.specs.Thread.{Frame, InStack, where_is};
-ghost use Rattle.mem_model.specs.Next.{Next, loads, stores, returns};
+ghost use Rattle.mem_model.specs.Next.{Next, loads, stores, updates, returns};
 ghost use Rattle.thread_state.specs.Seen.{thread_seen, IsThread};
 ghost use Rattle.interp_local.specs.Operands.{AreFew};
-ghost use Rattle.interp_local.specs.Actions.{IsAction, IsPlain, acted};
-ghost use Rattle.interp_local.specs.Steps.{UsesPlain};
-ghost use Rattle.interp_local.specs.Runs.{Tells, IsRan, is_went, pause_seen};
+ghost use Rattle.interp_local.specs.Actions.{IsAction, IsChange, arguments, acted};
+ghost use Rattle.interp_local.specs.Steps.{AreSized, inst_of};
+ghost use Rattle.interp_local.specs.Runs.{Tells, IsRan, HasRunShort, is_went, pause_seen, tried};
 
-use crate::actions::{Action, decide};
+use crate::actions::{Action, Change, decide};
+use crate::calls::look_call;
+use crate::phis::look_jump;
 use crate::steps::{Own, Part, Spot, inst_at, next, part_of};
-use ir_core::OutOfMemory;
+use ir_core::{Inst, Or, OutOfMemory};
 use ir_tables::Indexed;
-use mem_model::{Cell, Ptr, Trap};
+use mem_model::{Cell, Ptr, Trap, Word};
+use std::alloc::Global;
 use thread_state::ThreadState;
 
 /// Why a run of own steps has paused.
@@ -84,6 +87,33 @@ fn look_store(s: &ThreadState, at: Ptr, cell: Cell) -> Result<Own, Trap>
     }
 }
 
+/// Whether an atomic change in a block of a stack goes.
+fn look_update_own(s: &ThreadState, spot: Spot, change: Change) -> Result<Own, Trap>
+    requires { IsChange change }
+    ensures { (m : Module) (x : Option Name) (f : Frame) (rest : List Frame) → IsThread m s.now → (thread_seen m s.now).frames ≡ f ∷ rest → Tells (updates (thread_seen m s.now) f rest x change.width change.op change.number (InStack (spot.thread, spot.number) spot.offset)) result }
+{
+    if spot.thread != s.own {
+        return Err(Trap::NoBlock);
+    }
+    let cell = Cell::Int(change.width);
+    let Word::Int(_) = s.load(spot.number, spot.offset, cell)? else {
+        return Err(Trap::Unreachable);
+    };
+    s.reaches(spot.number, spot.offset, cell)?;
+    Ok(Own::Went)
+}
+
+/// Whether an atomic change goes.
+fn look_update(s: &ThreadState, at: Ptr, change: Change) -> Result<Own, Trap>
+    requires { IsChange change }
+    ensures { (m : Module) (x : Option Name) (f : Frame) (rest : List Frame) → IsThread m s.now → (thread_seen m s.now).frames ≡ f ∷ rest → Tells (updates (thread_seen m s.now) f rest x change.width change.op change.number (where_is at)) result }
+{
+    match part_of(at) {
+        Part::Stack(spot) => look_update_own(s, spot, change),
+        Part::Elsewhere => Ok(Own::Event),
+    }
+}
+
 /// Whether a return is the thread's own step.
 fn look_return(s: &ThreadState) -> Own
     ensures { (m : Module) (word : Option SpecWord) (f : Frame) (rest : List Frame) → (thread_seen m s.now).frames ≡ f ∷ rest → Tells (returns (thread_seen m s.now) rest f.code.back word) (Ok result) }
@@ -95,23 +125,27 @@ fn look_return(s: &ThreadState) -> Own
     }
 }
 
-/// What an action would be.
-fn look_at(s: &ThreadState, action: Action) -> Result<Own, Trap>
+/// What an action would be, where there is memory.
+fn look_at(m: &Indexed, s: &ThreadState, inst: &Inst, action: Action) -> Result<Own, Trap>
+    requires thread { IsThread m.now s.now }
+    requires few { AreFew m.now }
+    requires stands { inst_of m.now s.now ≡ Some inst.now }
     requires action { IsAction action }
-    requires plain { IsPlain action }
-    ensures { (m : Module) (x : Option Name) (f : Frame) (rest : List Frame) (args : List Typed) → ((k b : ℕ) → phis_at m k b ≡ []) → IsThread m s.now → (thread_seen m s.now).frames ≡ f ∷ rest → Tells (acted m (thread_seen m s.now) f rest x args action) result }
+    ensures { (f : Frame) (rest : List Frame) → (thread_seen m.now s.now).frames ≡ f ∷ rest → Tells (acted m.now (thread_seen m.now s.now) f rest inst.now.result (arguments inst.now.kind) action) result }
 {
     match action {
-        Action::Gives(_) | Action::Passes | Action::Jumps(_) => Ok(Own::Went),
+        Action::Gives(_) | Action::Passes | Action::Allocates(_) => Ok(Own::Went),
         Action::Loads(at, cell) => look_load(s, at, cell),
         Action::Stores(at, cell, _) => look_store(s, at, cell),
         Action::Deinit => Ok(Own::Event),
+        Action::Jumps(block) => look_jump(m, s, block),
         Action::Returns(_) => Ok(look_return(s)),
-        Action::Updates(..) | Action::Calls(_) => unreachable!(),
+        Action::Updates(at, change) => look_update(s, at, change),
+        Action::Calls(place) => look_call(m, s, inst, place),
     }
 }
 
-/// What the next step of a thread would be; nothing changes.
+/// What the next step of a thread would be, where there is memory for it; nothing changes.
 ///
 /// # Errors
 ///
@@ -119,7 +153,7 @@ fn look_at(s: &ThreadState, action: Action) -> Result<Own, Trap>
 pub fn look(m: &Indexed, s: &ThreadState) -> Result<Own, Trap>
     requires thread { IsThread m.now s.now }
     requires few { AreFew m.now }
-    requires plain { UsesPlain m.now }
+    requires sized { AreSized m.now }
     ensures { Tells (Next m.now (thread_seen m.now s.now)) result }
 {
     if s.frames.is_empty() {
@@ -129,7 +163,7 @@ pub fn look(m: &Indexed, s: &ThreadState) -> Result<Own, Trap>
         return Err(Trap::Unreachable);
     };
     let action = decide(m, s, &inst.kind)?;
-    look_at(s, action)
+    look_at(m, s, inst, action)
 }
 
 /// Whether a step was made.
@@ -151,18 +185,38 @@ fn pause_of(own: Result<Own, Trap>) -> Pause
     }
 }
 
+/// What a step has answered, but for want of memory.
+fn answered(own: Result<Own, Or<Trap>>) -> Result<Result<Own, Trap>, OutOfMemory>
+    ensures { MatchResult result (λ answer. own ≡ tried answer) (λ e. own ≡ Err (Or.Memory)) }
+{
+    match own {
+        Ok(own) => Ok(Ok(own)),
+        Err(Or::Refused(trap)) => Ok(Err(trap)),
+        Err(Or::Memory) => Err(OutOfMemory),
+    }
+}
+
 /// Makes own steps of a thread, `limit` of them at most, until its next step is an event or a trap, or it has ended.
 ///
-/// It takes no memory: the steps that do, a call of a function with blocks and a new block of the stack, are not served yet.
-pub fn local_run(m: &Indexed, s: &mut ThreadState, limit: u32) -> Result<Ran, OutOfMemory>
+/// Only a call of a function with blocks and a new block of the stack take memory.
+///
+/// # Errors
+///
+/// For want of memory: the thread then stands behind some of its steps, at an instruction that takes memory.
+pub fn local_run(
+    alloc: Global,
+    m: &Indexed,
+    s: &mut ThreadState,
+    limit: u32,
+) -> Result<Ran, OutOfMemory>
     requires thread { IsThread m.now s.old }
     requires few { AreFew m.now }
-    requires plain { UsesPlain m.now }
-    ensures { IsOkAnd result (IsRan m.now s.old s.new limit) }
+    requires sized { AreSized m.now }
+    ensures { MatchResult result (IsRan m.now s.old s.new limit) (λ e. HasRunShort m.now s.old s.new limit) }
 {
     let mut steps = 0;
     while steps < limit {
-        let own = next(m, s);
+        let own = answered(next(alloc, m, s))?;
         if !went(own) {
             return Ok(Ran {
                 steps,

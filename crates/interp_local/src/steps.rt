@@ -1,23 +1,26 @@
 //! The steps that a thread makes by itself.
 ghost use Rattle.std.specs.Prelude.{◌≡◌, ℕ, IsSome, ◌+◌, ◌<◌, ◌^◌, List, [], ◌∷◌, Option, Some, Ok, IfOk, OnSome};
 ghost use Rattle.std.specs.Option.{option_copied};
-ghost use Rattle.ir_core.specs.Places.{Name, phis_at};
+ghost use Rattle.ir_core.specs.Places.{Name};
 ghost use Rattle.mem_model.specs.Answers.{IsCell, IsOf};
 ghost use Rattle.ir_core.specs.declared.module.Module.{Module};
 ghost use Rattle.mem_model.specs.Thread.{Frame, InStack, where_is};
 ghost use Rattle.ir_core.specs.declared.instructions.Typed.{Typed};
-ghost use Rattle.mem_model.specs.Next.{loads, stores, to_block, returns, result_of, Next};
+ghost use Rattle.mem_model.specs.Next.{loads, stores, updates, returns, result_of};
 ghost use Rattle.interp_local.specs.Operands.{AreFew};
-ghost use Rattle.interp_local.specs.Actions.{IsAction, IsPlain, acted};
+ghost use Rattle.interp_local.specs.Actions.{IsAction, IsChange, TakesRoom, arguments, acted};
 ghost use Rattle.thread_state.specs.Seen.{thread_seen, IsThread, IsSeen};
 ghost use Rattle.thread_state.specs.Moves.{names_of, index_of, IsPlaceOf};
-ghost use Rattle.interp_local.specs.Steps.{IsOwn, Knows, inst_of, part_seen, behind, UsesPlain};
+ghost use Rattle.interp_local.specs.Steps.{IsOwn, IsTried, IsNext, Knows, inst_of, part_seen, behind, AreSized};
 
-use crate::actions::{Action, decide};
+use crate::actions::{Action, Change, decide};
+use crate::calls::{allocate, call};
 use crate::operands::register;
-use ir_core::Inst;
+use crate::phis::jump;
+use ir_core::{Inst, Or};
 use ir_tables::Indexed;
-use mem_model::{BlockName, Cell, Ptr, Trap, Word};
+use mem_model::{BlockName, Cell, Ptr, Trap, Word, updated};
+use std::alloc::Global;
 use thread_state::ThreadState;
 
 /// What a thread has done by itself.
@@ -149,12 +152,45 @@ fn store(s: &mut ThreadState, at: Ptr, cell: Cell, word: Word) -> Result<Own, Tr
     }
 }
 
-/// Goes to a block without phis.
-fn jump(s: &mut ThreadState, block: usize) -> Own
-    ensures { (m : Module) (f : Frame) (rest : List Frame) → IsThread m s.old → (thread_seen m s.old).frames ≡ f ∷ rest → phis_at m f.code.at.function block ≡ [] → IsOwn m s.old s.new (to_block m (thread_seen m s.old) f rest (Some block)) (Ok result) }
+/// Changes a number in a block of a stack atomically.
+fn update_own(
+    s: &mut ThreadState,
+    register: Option<usize>,
+    spot: Spot,
+    change: Change,
+) -> Result<Own, Trap>
+    requires change { IsChange change }
+    requires within { index_of s.old + 1 < 2 ^ 64 }
+    ensures { (m : Module) (x : Option Name) (f : Frame) (rest : List Frame) → Knows m s.old x register f rest → IsOwn m s.old s.new (updates (thread_seen m s.old) f rest x change.width change.op change.number (InStack (spot.thread, spot.number) spot.offset)) result }
 {
-    s.jump(block, 0);
-    Own::Went
+    if spot.thread != s.own {
+        return Err(Trap::NoBlock);
+    }
+    let cell = Cell::Int(change.width);
+    let Word::Int(old) = s.load(spot.number, spot.offset, cell)? else {
+        return Err(Trap::Unreachable);
+    };
+    let new = updated(change.op, change.width, old, change.number);
+    s.store(spot.number, spot.offset, cell, Word::Int(new))?;
+    s.go_on(register, Word::Int(old));
+    Ok(Own::Went)
+}
+
+/// Changes a number where a pointer points to: by itself in a stack.
+fn update(
+    s: &mut ThreadState,
+    register: Option<usize>,
+    at: Ptr,
+    change: Change,
+) -> Result<Own, Trap>
+    requires change { IsChange change }
+    requires within { index_of s.old + 1 < 2 ^ 64 }
+    ensures { (m : Module) (x : Option Name) (f : Frame) (rest : List Frame) → Knows m s.old x register f rest → IsOwn m s.old s.new (updates (thread_seen m s.old) f rest x change.width change.op change.number (where_is at)) result }
+{
+    match part_of(at) {
+        Part::Stack(spot) => update_own(s, register, spot, change),
+        Part::Elsewhere => Ok(Own::Event),
+    }
 }
 
 /// Goes on in the innermost call behind the call at which it stands, with a result or without one.
@@ -187,17 +223,18 @@ fn return_to(m: &Indexed, s: &mut ThreadState, word: Option<Word>) -> Own
     Own::Went
 }
 
-/// Does what an instruction does, unless it is an event.
-fn perform(
+/// Does what an instruction that takes no memory does, unless it is an event.
+fn perform_own(
     m: &Indexed,
     s: &mut ThreadState,
     register: Option<usize>,
     action: Action,
 ) -> Result<Own, Trap>
     requires thread { IsThread m.now s.old }
+    requires few { AreFew m.now }
     requires action { IsAction action }
-    requires plain { IsPlain action }
-    requires phis { (k b : ℕ) → phis_at m.now k b ≡ [] }
+    requires own { TakesRoom action → ⊥ }
+    requires stands { IsSome (inst_of m.now s.old) }
     requires within { index_of s.old + 1 < 2 ^ 64 }
     ensures { (x : Option Name) (f : Frame) (rest : List Frame) (args : List Typed) → Knows m.now s.old x register f rest → IsOwn m.now s.old s.new (acted m.now (thread_seen m.now s.old) f rest x args action) result }
 {
@@ -212,10 +249,37 @@ fn perform(
         }
         Action::Loads(at, cell) => load(s, register, at, cell),
         Action::Stores(at, cell, word) => store(s, at, cell, word),
+        Action::Updates(at, change) => update(s, register, at, change),
         Action::Deinit => Ok(Own::Event),
-        Action::Jumps(block) => Ok(jump(s, block)),
+        Action::Jumps(block) => jump(m, s, block),
         Action::Returns(word) => Ok(return_to(m, s, word)),
-        Action::Updates(..) | Action::Calls(_) => unreachable!(),
+        Action::Calls(_) | Action::Allocates(_) => unreachable!(),
+    }
+}
+
+/// Does what an instruction does, unless it is an event.
+fn perform(
+    alloc: Global,
+    m: &Indexed,
+    s: &mut ThreadState,
+    inst: &Inst,
+    action: Action,
+) -> Result<Own, Or<Trap>>
+    requires thread { IsThread m.now s.old }
+    requires few { AreFew m.now }
+    requires action { IsAction action }
+    requires stands { inst_of m.now s.old ≡ Some inst.now }
+    requires within { index_of s.old + 1 < 2 ^ 64 }
+    ensures { (f : Frame) (rest : List Frame) → (thread_seen m.now s.old).frames ≡ f ∷ rest → IsTried (TakesRoom action) m.now s.old s.new (acted m.now (thread_seen m.now s.old) f rest inst.now.result (arguments inst.now.kind) action) result }
+{
+    let register = result_place(m, s, inst);
+    match action {
+        Action::Calls(place) => call(alloc, m, s, inst, place),
+        Action::Allocates(size) => allocate(alloc, s, register, size),
+        _ => match perform_own(m, s, register, action) {
+            Ok(own) => Ok(own),
+            Err(trap) => Err(Or::Refused(trap)),
+        },
     }
 }
 
@@ -223,20 +287,22 @@ fn perform(
 ///
 /// # Errors
 ///
-/// The trap of the step, and then nothing has changed.
-pub fn next(m: &Indexed, s: &mut ThreadState) -> Result<Own, Trap>
+/// The trap of the step, or for want of memory, which only a call of a function with blocks and a new block of the stack
+/// take. The state then means what it did.
+pub fn next(alloc: Global, m: &Indexed, s: &mut ThreadState) -> Result<Own, Or<Trap>>
     requires thread { IsThread m.now s.old }
     requires few { AreFew m.now }
-    requires plain { UsesPlain m.now }
-    ensures { IsOwn m.now s.old s.new (Next m.now (thread_seen m.now s.old)) result }
+    requires sized { AreSized m.now }
+    ensures { IsNext m.now s.old s.new result }
 {
     if s.frames.is_empty() {
         return Ok(Own::Done);
     }
     let Some(inst) = inst_at(m, s) else {
-        return Err(Trap::Unreachable);
+        return Err(Or::Refused(Trap::Unreachable));
     };
-    let action = decide(m, s, &inst.kind)?;
-    let register = result_place(m, s, inst);
-    perform(m, s, register, action)
+    match decide(m, s, &inst.kind) {
+        Ok(action) => perform(alloc, m, s, inst, action),
+        Err(trap) => Err(Or::Refused(trap)),
+    }
 }

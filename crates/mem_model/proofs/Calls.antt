@@ -26,7 +26,7 @@ use Rattle.mem_model.specs.Orders.{block_equiv}
 use Rattle.mem_model.specs.Words.{cell_size, word_bytes, word_in}
 use Rattle.mem_model.specs.Memory.{Memory, no_blocks, Header, Given, Shares, Leaks, unless, then_unless, access, byte_or_zero, bytes_at, put_bytes, load_from, store_to, with_block, header_size, is_all, release_header, block_limit, Load, Store, Allocate, Release}
 use Rattle.mem_model.specs.Kept.{header_of, memory_of, word_at, IsOverwritten, IsWritten, released_by, IsReleased}
-use Rattle.mem_model.specs.Answers.{IsOf, IsDone, IsMade, with_byte}
+use Rattle.mem_model.specs.Answers.{IsOf, IsDone, IsMade, only_trap, with_byte}
 use Rattle.mem_model.specs.Thread.{given_of}
 use Rattle.mem_model.proofs.Orders.{block_same}
 use Rattle.mem_model.proofs.WordLaws.{number_length}
@@ -92,6 +92,14 @@ pub load_none : (es : List (BlockName × Block)) (name : BlockName) (offset : �
 load_none es name offset cell none = ap (λ h. load_from (memory_of es) name cell (access h offset (cell_size cell) false)) (sym (no_header es name none))
 
 -- ---- writes
+
+only_of : (m : Memory) (name : BlockName) (cell : Cell) (word : Word) (r : Result ℕ Trap) → only_trap r ≡ only_trap (store_to m name cell (Shares word) r)
+only_of m name cell word (Err e) = refl
+only_of m name cell word (Ok o) = refl
+
+pub kept_reach : (es : List (BlockName × Block)) (name : BlockName) (b : Block) → found name es ≡ Some b → (offset : ℤ) (cell : Cell) (word : Word) → only_trap (access (Some (header_of b)) offset (cell_size cell) true) ≡ only_trap (Store (memory_of es) (At name offset) cell (Shares word))
+kept_reach es name b was offset cell word =
+    ap (λ h. only_trap (access h offset (cell_size cell) true)) (sym (header_is es name b was)) ∙ only_of (memory_of es) name cell word (access (fin.get (memory_of es).blocks name) offset (cell_size cell) true)
 
 word_room : (cell : Cell) (word : Word) → IsOf cell word → length (word_bytes cell word) ≡ cell_size cell
 word_room (IntCell width) (Int n) h = number_length (cell_size (IntCell width)) n

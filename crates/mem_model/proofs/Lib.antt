@@ -11,3 +11,4 @@ pub mod Spelling
 pub mod KeptLaws
 pub mod Changes
 pub mod Calls
+pub mod Fits

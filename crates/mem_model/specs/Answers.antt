@@ -19,6 +19,11 @@ abbrev pub IsDone : {U : Type 0} → Result Memory Trap → Memory → Memory �
 IsDone (Ok m) old new result = IsOk result × (new ≡ m)
 IsDone (Err trap) old new result = (result ≡ Err trap) × (new ≡ old)
 
+-- the trap, where there is one
+abbrev pub only_trap : {A : Type 0} → Result A Trap → Result (Unit {0}) Trap
+only_trap (Err trap) = Err trap
+only_trap (Ok x) = Ok tt
+
 -- the same of a call that may want memory, and then leaves all as it was
 abbrev pub IsMade : {U : Type 0} → Result Memory Trap → Memory → Memory → Result U (Or Trap) → Type 0
 IsMade expected old new (Err WantOfMemory) = new ≡ old

@@ -96,9 +96,12 @@ pub(crate) fn low_bits(width: u32, n: u128) -> u64
 }
 
 /// What is left of a number in the width's bits, where one below zero counts from 2 to the width down.
-fn wrapped(width: u32, z: i128) -> u64
+///
+/// The width is 64 at most.
+pub fn wrapped(width: u32, z: i128) -> u64
     requires { width ≤ 64 }
-    ensures { result ≡ spec.wrapped width z }
+    ensures value { result ≡ spec.wrapped width z }
+    ensures fits { result < 2 ^ width }
 {
     low_bits(width, z.cast_unsigned())
 }

@@ -16,8 +16,9 @@ mod shared;
 mod step;
 #[cfg(test)]
 mod tests;
+mod update;
 
-pub use arithmetic::{compare, eval, sign_extend};
+pub use arithmetic::{compare, eval, sign_extend, wrapped};
 pub use bytes::{cell_size, number_of, place_in, read_word, write_word};
 pub use covering::{Behaves, covers_chain, covers_itself};
 pub use crossing::{accesses_cross, memory_crosses, runs_cross};
@@ -25,3 +26,4 @@ pub use launch::{Arg, Launch, Shown};
 pub use memory::{BlockName, Byte, Cell, Ptr, Word};
 pub use shared::Memory;
 pub use step::{End, Moved, NotReady, Trap};
+pub use update::updated;

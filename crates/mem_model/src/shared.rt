@@ -1,10 +1,11 @@
 //! The memory that threads share: blocks, found by name.
 ghost use Rattle.std.specs.Prelude.{◌≡◌, ℕ, ◌<◌, ◌≤◌, Some, None, true, false, [], ◌∷◌, length, IfOk, IsSome, is_some, MatchResult};
 ghost use Rattle.std.specs.FinMap as fin;
+ghost use Rattle.mem_model.specs.declared.memory.Word.{Word as SpecWord};
 ghost use Rattle.mem_model.specs.Words as words;
-ghost use Rattle.mem_model.specs.Memory.{no_blocks, with_block, access, Load, Store, Allocate, Release, header_size, bytes_at};
+ghost use Rattle.mem_model.specs.Memory.{no_blocks, with_block, access, Shares, Load, Store, Allocate, Release, header_size, bytes_at};
 ghost use Rattle.mem_model.specs.Kept.{header_of, word_at, IsOverwritten, IsWritten, IsReleased};
-ghost use Rattle.mem_model.specs.Answers.{IsCell, IsOf, IsInside, IsDone, IsMade, with_byte};
+ghost use Rattle.mem_model.specs.Answers.{IsCell, IsOf, IsInside, IsDone, IsMade, only_trap, with_byte};
 ghost use Rattle.mem_model.specs.Thread.{given_of};
 
 use crate::bytes::{cell_size, place_in, read_word, write_word};
@@ -50,6 +51,14 @@ impl Block {
         let size = cell_size(cell);
         let start = self.access(offset, size, false)?;
         read_word(&self.bytes[start..start + size], cell)
+    }
+
+    /// Whether a word of a cell can be written at an offset.
+    fn reaches(&self, offset: i64, cell: Cell) -> Result<(), Trap>
+        ensures { result ≡ only_trap (access (Some (header_of self.now)) offset (words.cell_size cell) true) }
+    {
+        self.access(offset, cell_size(cell), true)?;
+        Ok(())
     }
 
     /// Releases the block, of which the offset is the beginning and `len` the size.
@@ -227,6 +236,23 @@ impl Memory {
         };
         match self.blocks.get_mut(&name) {
             Some(block) => block.write(offset, cell, word),
+            None => Err(Trap::NoBlock),
+        }
+    }
+
+    /// Whether a word that threads can share can be written in a cell at a pointer.
+    ///
+    /// # Errors
+    ///
+    /// The trap of `write`.
+    pub fn reaches(&self, at: &Ptr, cell: Cell) -> Result<(), Trap>
+        ensures { (word : SpecWord) → result ≡ only_trap (Store self.now at.now cell (Shares word)) }
+    {
+        let Ptr::At(name, offset) = *at else {
+            return Err(Trap::NoBlock);
+        };
+        match self.blocks.get(&name) {
+            Some(block) => block.reaches(offset, cell),
             None => Err(Trap::NoBlock),
         }
     }

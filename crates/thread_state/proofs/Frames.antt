@@ -1,15 +1,15 @@
 -- The innermost call replaced by one that stands for it moved on.
-use Rattle.std.proofs.Common.{◌≡◌, ℕ, ◌+◌, ◌-◌, ◌<◌, ◌≤◌, List, [], ◌∷◌, ◌++◌, take, set, length, reverse, sym, ap, ◌∙◌, subst, arith, slice_set, slice_index_or, Option}
+use Rattle.std.proofs.Common.{◌≡◌, ℕ, ◌+◌, ◌-◌, ◌<◌, ◌≤◌, List, [], ◌∷◌, ◌++◌, take, set, length, reverse, refl, sym, ap, ◌∙◌, subst, arith, slice_set, slice_index_or, Option}
 use Rattle.std.proofs.lemmas.List.{take_more, take_more_set, take_all, reverse-append, length-set}
 use Rattle.ir_core.specs.declared.module.Module.{Module}
 use Rattle.std.specs.Vec.{with_item}
 use Rattle.ir_core.specs.Places.{Name, register_names}
-use Rattle.mem_model.specs.Thread.{Code, ThreadState}
+use Rattle.mem_model.specs.Thread.{Code, Frame, ThreadState}
 use Rattle.thread_state.specs.declared.state.Frame.{Frame as FrameData}
 use Rattle.thread_state.specs.declared.state.StackBlock.{StackBlock}
 use Rattle.thread_state.specs.declared.state.ThreadState.{ThreadState as ThreadData}
-use Rattle.thread_state.specs.Seen.{code_seen, blocks_seen, frames_seen, answers_seen, thread_seen, AreFrames, IsThread}
-use Rattle.thread_state.specs.Moves.{first_names, names_of, on_first, on_innermost, IsPlaceOf, Moves}
+use Rattle.thread_state.specs.Seen.{code_seen, blocks_seen, frames_seen, answers_seen, thread_seen, AreFrames, IsThread, IsSeen}
+use Rattle.thread_state.specs.Moves.{first_names, names_of, first_room, room_of, on_first, on_innermost, IsPlaceOf, Moves}
 
 -- ---- the last of a list
 
@@ -63,6 +63,15 @@ module _ (s : ThreadData) (f : FrameData) (some : 0 < s.frames.len) (size : s.fr
   pub innermost_place : (m : Module) (x : Option Name) (register : Option ℕ) → IsPlaceOf (names_of m s) x register → IsPlaceOf (register_names m f.function) x register
   innermost_place m x register = subst (λ fs. IsPlaceOf (first_names m fs) x register) (ends f).was
 
+  pub room_with : (g : FrameData) → room_of (with_last s g) ≡ g.room
+  room_with g = ap first_room (ends g).is
+
+  pub room_was : room_of s ≡ f.room
+  room_was = ap first_room (ends f).was
+
+  pub names_with : (m : Module) (g : FrameData) → g.function ≡ f.function → names_of m (with_last s g) ≡ names_of m s
+  names_with m g same = ap (first_names m) (ends g).is ∙ ap (register_names m) same ∙ sym (ap (first_names m) (ends g).was)
+
   pub replaced : (m : Module) (go : Code → Code) (g : FrameData) → Replaces m go f g → IsThread m s → Moves go m s (with_last s g)
   replaced m go g r is =
       let e = ends g in
@@ -74,3 +83,12 @@ module _ (s : ThreadData) (f : FrameData) (some : 0 < s.frames.len) (size : s.fr
       ∙ (λ i. record { own = s.own; counter = s.counter; frames = seen_frames m go f g r s.own s.stack.items end e.front are i; answers = answers_seen s.answers })
       ∙ ap (λ fs. on_innermost go (seen fs)) (sym e.was) in
       ((subst (AreFrames m end) (sym e.is) (are_frames m go f g r end e.front are), is.1, is.2), moved)
+
+-- ---- a call that stands for the same
+
+same_first : (fs : List Frame) → on_first (λ c. c) fs ≡ fs
+same_first [] = refl
+same_first (f ∷ rest) = refl
+
+pub same_seen : (m : Module) (old new : ThreadData) → Moves (λ c. c) m old new → IsSeen m new (thread_seen m old)
+same_seen m old new h = (h.0, h.1 ∙ ap (λ fs. record (thread_seen m old) { frames = fs }) (same_first (thread_seen m old).frames))

@@ -30,6 +30,14 @@ first_index (f ∷ outer) = f.index
 abbrev pub index_of : ThreadData → ℕ
 index_of s = first_index (reverse s.frames.items)
 
+abbrev pub first_room : List FrameData → List Word
+first_room [] = []
+first_room (f ∷ outer) = f.room
+
+-- the words in the room of the innermost call
+abbrev pub room_of : ThreadData → List Word
+room_of s = first_room (reverse s.frames.items)
+
 abbrev pub on_first : (Code → Code) → List Frame → List Frame
 on_first go [] = []
 on_first go (f ∷ rest) = record f { code = go f.code } ∷ rest
@@ -64,6 +72,9 @@ put_value values (Some n) word = slice_set values n (Some word)
 
 abbrev pub frame_assigned : FrameData → Option ℕ → Word → FrameData
 frame_assigned f register word = record f { registers = put_value f.registers register word }
+
+abbrev pub frame_kept : FrameData → ℕ → Word → FrameData
+frame_kept f at word = record f { room = slice_set f.room at word }
 
 abbrev pub frame_past : FrameData → FrameData
 frame_past f = record f { index = f.index + 1 }

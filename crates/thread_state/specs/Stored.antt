@@ -21,11 +21,6 @@ IsBlockPlace stack number None = (at : ℕ) (b : StackBlock) → slice_get stack
 abbrev pub own_block : Module → ThreadData → ℕ → Option (List Byte)
 own_block m s number = find_in (thread_seen m s).frames (s.own, number)
 
--- the trap, where there is one
-abbrev pub only_trap : Result (List Byte) Trap → Result (Unit {0}) Trap
-only_trap (Err trap) = Err trap
-only_trap (Ok bytes) = Ok tt
-
 -- the state with the bytes that were to come in a block, or the trap and the state as it was
 abbrev pub IsStored : {U : Type 0} → Result (List Byte) Trap → Module → ℕ → ThreadData → ThreadData → Result U Trap → Type 0
 IsStored (Err trap) m number old new result = (result ≡ Err trap) × (new ≡ old)

@@ -1,11 +1,11 @@
 //! The registers of the innermost call, and the place where it stands. In a state without calls nothing is found, and nothing
 //! changes.
-ghost use Rattle.std.specs.Prelude.{◌≡◌, ℕ, ◌+◌, ◌<◌, ◌^◌, Option};
+ghost use Rattle.std.specs.Prelude.{◌≡◌, ℕ, ◌+◌, ◌<◌, ◌^◌, slice_get, slice_set, Option};
 ghost use Rattle.ir_core.specs.declared.module.Module.{Module};
 ghost use Rattle.ir_core.specs.Places.{Name, place_in};
 ghost use Rattle.mem_model.specs.Next.{code_on, code_past};
-ghost use Rattle.thread_state.specs.Seen.{value_at, thread_seen, IsThread};
-ghost use Rattle.thread_state.specs.Moves.{first_registers, names_of, index_of, Moves, IsPlaceOf, with_register, code_at, frame_assigned, frame_past, frame_at};
+ghost use Rattle.thread_state.specs.Seen.{value_at, thread_seen, IsThread, IsSeen};
+ghost use Rattle.thread_state.specs.Moves.{first_registers, names_of, index_of, room_of, Moves, IsPlaceOf, with_register, code_at, frame_assigned, frame_kept, frame_past, frame_at};
 
 use crate::state::{Frame, ThreadState};
 use mem_model::Word;
@@ -31,6 +31,15 @@ impl Frame {
             }
         }
     }
+
+    /// Keeps a word at a place of the room, where there is such a place.
+    fn keep(&mut self, at: usize, word: Word)
+        ensures { self.new ≡ frame_kept self.old at word }
+    {
+        if at < self.room.len() {
+            self.room.set(at, word);
+        }
+    }
 }
 
 impl ThreadState {
@@ -43,10 +52,32 @@ impl ThreadState {
 
     /// Gives a register of the innermost call a value, by its place; none is for a result without a register.
     pub fn assign(&mut self, register: Option<usize>, word: Word)
-        ensures { (m : Module) (x : Option Name) → IsThread m self.old → IsPlaceOf (names_of m self.old) x register → Moves (with_register x word) m self.old self.new }
+        ensures moves { (m : Module) (x : Option Name) → IsThread m self.old → IsPlaceOf (names_of m self.old) x register → Moves (with_register x word) m self.old self.new }
+        ensures room { room_of self.new ≡ room_of self.old }
+        ensures names { (m : Module) → names_of m self.new ≡ names_of m self.old }
     {
         if let Some(frame) = self.frames.last_mut() {
             frame.assign(register, word);
+        }
+    }
+
+    /// The word that is kept at a place of the innermost call's room; none where there is no such place.
+    pub fn kept(&self, at: usize) -> Option<Word>
+        ensures { result ≡ slice_get (room_of self.now) at }
+    {
+        match self.frames.last()?.room.get(at) {
+            None => None,
+            Some(word) => Some(*word),
+        }
+    }
+
+    /// Keeps a word at a place of the innermost call's room, where there is such a place.
+    pub fn keep(&mut self, at: usize, word: Word)
+        ensures room { room_of self.new ≡ slice_set (room_of self.old) at word }
+        ensures same { (m : Module) → IsThread m self.old → IsSeen m self.new (thread_seen m self.old) }
+    {
+        if let Some(frame) = self.frames.last_mut() {
+            frame.keep(at, word);
         }
     }
 

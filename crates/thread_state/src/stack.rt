@@ -4,12 +4,12 @@ ghost use Rattle.ir_core.specs.declared.module.Module.{Module};
 ghost use Rattle.mem_model.specs.declared.memory.Word.{Word};
 ghost use Rattle.mem_model.specs.Words as words;
 ghost use Rattle.mem_model.specs.Memory.{inside};
-ghost use Rattle.mem_model.specs.Answers.{IsCell, IsOf};
+ghost use Rattle.mem_model.specs.Answers.{IsCell, IsOf, only_trap};
 ghost use Rattle.ir_core.specs.Places.{register_names};
 ghost use Rattle.mem_model.specs.Thread.{Frame as SpecFrame, load_own, store_own, spliced};
 ghost use Rattle.mem_model.specs.Next.{with_frames};
 ghost use Rattle.thread_state.specs.Seen.{AreBlocks, StandsAtCall, thread_seen, IsThread, IsSeen};
-ghost use Rattle.thread_state.specs.Stored.{IsBlockPlace, own_block, only_trap, IsStored, HasEntered, HasBlock};
+ghost use Rattle.thread_state.specs.Stored.{IsBlockPlace, own_block, IsStored, HasEntered, HasBlock};
 
 use crate::state::{Frame, StackBlock, ThreadState};
 use ir_core::{List, OutOfMemory};
@@ -42,7 +42,8 @@ impl StackBlock {
     /// The word of a cell at an offset.
     fn load(&self, offset: i64, cell: Cell) -> Result<Word, Trap>
         requires { IsCell cell }
-        ensures { result ≡ load_own (Some self.now.bytes.items) offset cell }
+        ensures value { result ≡ load_own (Some self.now.bytes.items) offset cell }
+        ensures fits { IfOk result (IsOf cell) }
     {
         let size = cell_size(cell);
         let start = place_in(self.bytes.len(), offset, size)?;
@@ -79,7 +80,8 @@ impl ThreadState {
     /// the bytes don't lie whole in the block; `NotNumber` where they hold no word of the cell.
     pub fn load(&self, number: u64, offset: i64, cell: Cell) -> Result<Word, Trap>
         requires { IsCell cell }
-        ensures { (m : Module) → IsThread m self.now → result ≡ load_own (own_block m self.now number) offset cell }
+        ensures value { (m : Module) → IsThread m self.now → result ≡ load_own (own_block m self.now number) offset cell }
+        ensures fits { IfOk result (IsOf cell) }
     {
         match block_place(self.stack.as_slice(), number) {
             Some(at) => self.stack[at].load(offset, cell),
@@ -161,7 +163,8 @@ impl ThreadState {
     ///
     /// For want of memory, and then nothing changes but the room of the stack; a 2^64th block of one thread isn't made either.
     pub fn make_block(&mut self, alloc: Global, size: usize) -> Result<(), OutOfMemory>
-        ensures { (m : Module) (f : SpecFrame) (rest : Listed SpecFrame) → IsThread m self.old → (thread_seen m self.old).frames ≡ f ∷ rest → HasBlock m size f rest self.old self.new result }
+        ensures frames { self.new.frames ≡ self.old.frames }
+        ensures seen { (m : Module) (f : SpecFrame) (rest : Listed SpecFrame) → IsThread m self.old → (thread_seen m self.old).frames ≡ f ∷ rest → HasBlock m size f rest self.old self.new result }
     {
         let Some(counter) = self.counter.checked_add(1) else {
             return Err(OutOfMemory);

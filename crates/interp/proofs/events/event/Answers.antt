@@ -5,7 +5,7 @@ use Rattle.team_model.specs.declared.Stand.TheVariants.{Runs}
 use Rattle.thread_state.specs.Seen.{thread_seen}
 use Rattle.interp_local.specs.Operands.{registers}
 use Rattle.interp_local.specs.Actions.{function_of, arguments}
-use Rattle.interp_local.proofs.Nexts.{at_inst, served, next_decided, plain}
+use Rattle.interp_local.proofs.Nexts.{at_inst, served, next_decided}
 use Rattle.interp.specs.Events.{shared_seen}
 use Rattle.interp.proofs.Happens.{pending_of, no_trap, team_step}
 use Rattle.interp.proofs.events.event.Goals as goal
@@ -17,7 +17,7 @@ unreachable-requires-in_default-decide c =
     let i = c.in-Some.inst.now in
     let is = sym c.in-Some.ensures.value in
     no_trap (Next m (thread_seen m s)) c.in_default-decide.field-0 c.requires.pending
-    (next_decided m s (at_inst m s i is) i (Err c.in_default-decide.field-0) is (served m s i c.requires.plain is) (sym c.in_default-decide.is ∙ c.decide.ensures.value))
+    (next_decided m s (at_inst m s i is) i (Err c.in_default-decide.field-0) is (served m s i c.requires.sized is) (sym c.in_default-decide.is ∙ c.decide.ensures.value))
 
 pub happen-requires-clause-there : goal.happen-requires-clause-there
 happen-requires-clause-there c = slice_get_within c.args.sh.now.stands c.args.thread Runs c.requires.runs
@@ -30,7 +30,7 @@ returns c =
     let i = c.in-Some.inst.now in
     let is = sym c.in-Some.ensures.value in
     let a = at_inst m s i is in
-    let does = served m s i c.requires.plain is in
+    let does = served m s i c.requires.sized is in
     let p = pending_of (Next m (thread_seen m s)) c.requires.pending in
     let decided = sym c.in-Ok.is ∙ c.decide.ensures.value in
     let stands = a.place_is ∙ is in
@@ -41,11 +41,13 @@ returns c =
       result = sym (ap result_of stands);
       line = sym (ap (frames_line m) a.frames ∙ ap line_of stands);
     })
-    (next_decided m s a i (Ok c.in-Ok.action) is does decided ∙ p.1)
-    (plain m (function_of s) (registers m s) s.answers.init i.kind c.in-Ok.action does decided) in
+    (next_decided m s a i (Ok c.in-Ok.action) is does decided ∙ p.1) in
     record {
       thread = makes.thread;
       step = team_step m c.args.thread (shared_seen sh) (shared_seen c.happen.new.sh) (thread_seen m s) (thread_seen m c.happen.new.s) p.0 p.1 c.requires.goes c.requires.runs makes.shared makes.state;
       answer_is = makes.answer_is;
       history = makes.history ∙ c.in_ok-push.ensures.ok;
     }
+
+pub decide-requires-clause-sized : goal.decide-requires-clause-sized
+decide-requires-clause-sized c = served c.args.m.now c.args.s.now c.in-Some.inst.now c.requires.sized (sym c.in-Some.ensures.value)

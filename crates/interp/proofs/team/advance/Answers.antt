@@ -1,10 +1,10 @@
-use Rattle.std.proofs.Common.{Ok, refl, sym, subst}
+use Rattle.std.proofs.Common.{Ok, Err, refl, sym, ap, ◌∙◌, subst}
 use Rattle.mem_model.specs.Next.{Next}
 use Rattle.thread_state.specs.Seen.{thread_seen, IsThread}
 use Rattle.interp_local.specs.Steps.{IsOwn}
 use Rattle.interp.specs.Events.{IsPending}
 use Rattle.interp.specs.Teams.{HasAdvanced}
-use Rattle.interp.proofs.Advance.{own_went, own_event, own_done, own_trap, local_goes, trap_goes}
+use Rattle.interp.proofs.Advance.{own_went, own_event, own_done, next_trap, local_goes, trap_goes}
 use Rattle.interp.proofs.team.advance.Goals as goal
 
 pub happen-requires-clause-state : goal.happen-requires-clause-state
@@ -42,9 +42,9 @@ returns-in-Ok-Done c =
     let p = own_done m s c.next.new.s (Next m (thread_seen m s)) (subst (λ o. IsOwn m s c.next.new.s (Next m (thread_seen m s)) (Ok o)) c.in-Ok-Done.field-0-is c.in-Ok-Done.ensures) in
     (p.0, refl, p.1)
 
-pub returns-in-Err : goal.returns-in-Err
-returns-in-Err c =
+pub returns-in-Err-Refused : goal.returns-in-Err-Refused
+returns-in-Err-Refused c =
     let m = c.args.m.now in
     let s = c.args.s.now in
-    let p = own_trap m s c.next.new.s (Next m (thread_seen m s)) c.in-Err.trap c.in-Err.ensures in
-    trap_goes m c.args.thread c.line_of.result c.args.sh.now s c.next.new.s c.in-Err.trap c.requires.running c.requires.state p.0 p.1 c.line_of.ensures
+    let p = next_trap m s c.next.new.s c.in-Err-Refused.trap c.next.result (c.in-Err-Refused.is ∙ ap Err c.in-Err-Refused.field-0-is) c.next.ensures in
+    trap_goes m c.args.thread c.line_of.result c.args.sh.now s c.next.new.s c.in-Err-Refused.trap c.requires.running p.0 p.1 c.line_of.ensures

@@ -1,6 +1,6 @@
-use Rattle.std.proofs.Common.{subst}
+use Rattle.std.proofs.Common.{◌≡◌, subst, rules}
 use Rattle.interp.specs.Events.{HasHappened}
-use Rattle.interp.proofs.Advance.{event_goes, event_traps, no_wait}
+use Rattle.interp.proofs.Advance.{event_goes, event_traps, no_wait, err_is, memory_wants}
 use Rattle.interp.proofs.team.happen.Goals as goal
 
 pub returns-in-Went : goal.returns-in-Went
@@ -16,3 +16,11 @@ returns-in-Trapped c =
 pub unreachable-requires : goal.unreachable-requires
 unreachable-requires c =
     let h = subst (HasHappened c.args.m.now c.args.thread 0 c.args.sh.now c.event.new.sh c.args.s.now c.event.new.s) c.in-Wait.is c.in_ok-event.ensures in no_wait c.event.new.sh.trapped h.answer_is
+
+pub returns-in_err-event : goal.returns-in_err-event
+returns-in_err-event c =
+    let m = c.args.m.now in
+    let s = c.args.s.now in
+    let sh = c.args.sh.now in
+    memory_wants m c.args.thread sh c.event.new.sh s c.event.new.s c.from_residual.result (search rules) c.requires.state
+    (err_is (HasHappened m c.args.thread 0 sh c.event.new.sh s c.event.new.s) ((c.event.new.sh ≡ sh) × (c.event.new.s ≡ s)) c.event.result c.in_err-event.field-0.0 c.event.ensures c.in_err-event.was)

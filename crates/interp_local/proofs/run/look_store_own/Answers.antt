@@ -3,7 +3,8 @@ use Rattle.std.specs.Int.{w64}
 use Rattle.std.proofs.lemmas.Int.{to_z-of_z}
 use Rattle.mem_model.specs.declared.step.Trap.TheVariants.{NoBlock}
 use Rattle.mem_model.specs.Thread.{store_own}
-use Rattle.thread_state.specs.Stored.{own_block, only_trap}
+use Rattle.mem_model.specs.Answers.{only_trap}
+use Rattle.thread_state.specs.Stored.{own_block}
 use Rattle.interp_local.proofs.Moved.{other_thread, own_found}
 use Rattle.interp_local.proofs.Looks.{tells_trap, trap_of, tells_store}
 use Rattle.interp_local.proofs.run.look_store_own.Goals as goal

@@ -6,7 +6,7 @@ use Rattle.mem_model.specs.declared.step.Trap.{Trap}
 use Rattle.mem_model.specs.Words.{cell_size, word_bytes}
 use Rattle.mem_model.specs.Memory.{inside}
 use Rattle.mem_model.specs.Thread.{store_own, spliced}
-use Rattle.thread_state.specs.Stored.{only_trap}
+use Rattle.mem_model.specs.Answers.{only_trap}
 use Rattle.thread_state.proofs.Held.{holds, own_at, own_none}
 use Rattle.thread_state.proofs.state.ThreadState.reaches.Goals as goal
 

@@ -1,0 +1,156 @@
+//! Calls of functions with blocks, and new blocks of the stack: the steps that take memory.
+ghost use Rattle.std.specs.Prelude.{◌≡◌, ℕ, ◌+◌, ◌<◌, ◌≤◌, ◌^◌, List as Listed, ◌∷◌, Option, Some, None, length, replicate, IfOk};
+ghost use Rattle.std.specs.Option.{option_copied};
+ghost use Rattle.ir_core.specs.declared.module.Module.{Module};
+ghost use Rattle.ir_core.specs.Places.{Name as SpecName};
+ghost use Rattle.mem_model.specs.Answers.{only_trap};
+ghost use Rattle.mem_model.specs.Memory.{block_limit};
+ghost use Rattle.mem_model.specs.Thread.{Frame};
+ghost use Rattle.mem_model.specs.Values.{operand_words};
+ghost use Rattle.mem_model.specs.Next.{defined_at, next_call, allocates};
+ghost use Rattle.thread_state.specs.Seen.{thread_seen, IsThread};
+ghost use Rattle.thread_state.specs.Moves.{index_of};
+ghost use Rattle.interp_local.specs.Operands.{AreFew, registers};
+ghost use Rattle.interp_local.specs.Actions as spec;
+ghost use Rattle.interp_local.specs.Calls.{IsBody, AreBound};
+ghost use Rattle.interp_local.specs.Steps.{IsTried, Knows, inst_of};
+ghost use Rattle.interp_local.specs.Runs.{Tells};
+
+use crate::operands::value_word;
+use crate::steps::Own;
+use ir_core::{Function, Inst, Kind, List, Or, OutOfMemory, Typed};
+use ir_tables::Indexed;
+use mem_model::{BlockName, Ptr, Trap, Word};
+use std::alloc::Global;
+use thread_state::ThreadState;
+
+/// The operands of a call; none of another instruction.
+fn arguments(kind: &Kind) -> &[Typed]
+    ensures { result.now ≡ spec.arguments kind.now }
+{
+    match kind {
+        Kind::Call { args, .. } => args.as_slice(),
+        _ => &[],
+    }
+}
+
+/// The function at a place, where it has blocks.
+fn body<'a>(m: &Indexed<'a>, place: usize) -> Option<&'a Function>
+    ensures { IsBody m.now place (option_copied result) }
+{
+    let function = m.module().functions.get(place)?;
+    if function.blocks.is_empty() {
+        None
+    } else {
+        Some(function)
+    }
+}
+
+/// Whether each operand has a word.
+fn look_words(m: &Indexed, s: &ThreadState, args: &[Typed]) -> Result<(), Trap>
+    requires { AreFew m.now }
+    ensures { result ≡ only_trap (operand_words m.now (registers m.now s.now) args.now) }
+{
+    for arg in args {
+        value_word(m, s, &arg.value)?;
+    }
+    Ok(())
+}
+
+/// Puts the words of operands in the first places of a call's registers, as many as it has parameters.
+fn bind(
+    m: &Indexed,
+    s: &ThreadState,
+    args: &[Typed],
+    params: usize,
+    values: &mut List<Option<Word>>,
+) -> Result<(), Trap>
+    requires few { AreFew m.now }
+    requires room { params ≤ length values.old }
+    ensures { AreBound (operand_words m.now (registers m.now s.now) args.now) params values.old values.new result }
+{
+    let mut at = 0;
+    for arg in args {
+        let word = value_word(m, s, &arg.value)?;
+        if at < params {
+            values.set(at, Some(word));
+        }
+        at += 1;
+    }
+    Ok(())
+}
+
+/// Registers without values.
+fn no_values(alloc: Global, count: usize) -> Result<List<Option<Word>>, OutOfMemory>
+    ensures { IfOk result (λ values. values ≡ replicate count None) }
+{
+    Ok(List::from_vec(vec![in alloc; None; count]?))
+}
+
+/// Room for so many words.
+fn room_for(alloc: Global, count: usize) -> Result<List<Word>, OutOfMemory>
+    ensures { IfOk result (λ room. length room ≡ count) }
+{
+    Ok(List::from_vec(vec![in alloc; Word::Int(0); count]?))
+}
+
+/// Calls the function at a place from the instruction at which the innermost call stands.
+pub(crate) fn call(
+    alloc: Global,
+    m: &Indexed,
+    s: &mut ThreadState,
+    inst: &Inst,
+    place: usize,
+) -> Result<Own, Or<Trap>>
+    requires thread { IsThread m.now s.old }
+    requires few { AreFew m.now }
+    requires stands { inst_of m.now s.old ≡ Some inst.now }
+    ensures { (f : Frame) (rest : Listed Frame) → (thread_seen m.now s.old).frames ≡ f ∷ rest → IsTried (Unit {0}) m.now s.old s.new (next_call m.now (thread_seen m.now s.old) f rest inst.now.result (spec.arguments inst.now.kind) (defined_at m.now (Some place))) result }
+{
+    let Some(function) = body(m, place) else {
+        return Err(Or::Refused(Trap::Unreachable));
+    };
+    let count = m.register_count(place);
+    let mut values = no_values(alloc, count)?;
+    let args = arguments(&inst.kind);
+    if let Err(trap) = bind(m, s, args, function.params.len(), &mut values) {
+        return Err(Or::Refused(trap));
+    }
+    let room = room_for(alloc, count)?;
+    s.enter(place, values, room)?;
+    Ok(Own::Went)
+}
+
+/// Whether a call of the function at a place goes, where there is memory.
+pub(crate) fn look_call(
+    m: &Indexed,
+    s: &ThreadState,
+    inst: &Inst,
+    place: usize,
+) -> Result<Own, Trap>
+    requires { AreFew m.now }
+    ensures { (f : Frame) (rest : Listed Frame) → (thread_seen m.now s.now).frames ≡ f ∷ rest → Tells (next_call m.now (thread_seen m.now s.now) f rest inst.now.result (spec.arguments inst.now.kind) (defined_at m.now (Some place))) result }
+{
+    if body(m, place).is_none() {
+        return Err(Trap::Unreachable);
+    }
+    look_words(m, s, arguments(&inst.kind))?;
+    Ok(Own::Went)
+}
+
+/// Makes a block of so many zero bytes in the thread's own stack, and goes on with its address.
+pub(crate) fn allocate(
+    alloc: Global,
+    s: &mut ThreadState,
+    register: Option<usize>,
+    size: u64,
+) -> Result<Own, Or<Trap>>
+    requires size { size ≤ block_limit }
+    requires within { index_of s.old + 1 < 2 ^ 64 }
+    ensures { (m : Module) (x : Option SpecName) (f : Frame) (rest : Listed Frame) → Knows m s.old x register f rest → IsTried (Unit {0}) m s.old s.new (allocates (thread_seen m s.old) f rest x size) result }
+{
+    let at = Ptr::At(BlockName::Stack(s.own, s.counter), 0);
+    s.make_block(alloc, size as usize)?;
+    s.go_on(register, Word::Ptr(at));
+    Ok(Own::Went)
+}
