@@ -2,13 +2,15 @@
 #![tactic(auto)]
 
 mod addresses;
+mod branches;
 mod calls;
 mod instructions;
 mod operands;
 mod results;
 
-pub use addresses::address;
-pub use calls::{call, each_operand};
+pub use addresses::{address, shape};
+pub use branches::Body;
+pub use calls::{call, each_operand, if_output, is_entry_point, same_result};
 pub use instructions::{
     binary, comparison, conditional_branch, conversion, loaded, returned, rmw, selection, stored,
     switch,
