@@ -1,18 +1,23 @@
 -- A table of who branches where grows by one block after another.
-use Rattle.std.proofs.Common.{◌≡◌, ℕ, ◌+◌, ◌<◌, List, [], ◌∷◌, ◌++◌, map, length, take, get_or, Option, Some, None, Bool, true, false, ◌||◌, refl, sym, ap, ◌∙◌, if◌then◌else◌, add-one, append_assoc}
-use Rattle.std.specs.List.{flat_map, list_any}
+use Rattle.std.proofs.Common.{◌≡◌, ℕ, ◌+◌, ◌<◌, is_some, ◌&&◌, List, [], ◌∷◌, ◌++◌, map, length, take, get_or, Option, Some, None, Bool, true, false, ◌||◌, refl, sym, ap, ◌∙◌, if◌then◌else◌, add-one, append_assoc}
+use Rattle.std.specs.List.{flat_map, list_any, list_all}
 use Rattle.std.specs.Borrow.{Bor}
 use Rattle.std.specs.Str.{bytes_eq}
 use Rattle.std.proofs.Math.Seq.{take-suc}
 use Rattle.std.proofs.lemmas.List.{map-append, append-nil}
+use Rattle.std.proofs.lemmas.Bool.{both_ways, and_parts, and_from}
+use Rattle.std.proofs.lemmas.Bool.Decides.{same_from_decides}
+use Rattle.std.specs.Bool.{Decides}
 use Rattle.std.proofs.lemmas.Slice.Eq.{bytes_eq-Decides}
-use Rattle.indexmap.specs.IndexMap.{IndexMap}
+use Rattle.indexmap.specs.IndexMap.{IndexMap, get_by}
 use Rattle.indexmap.specs.IndexSet.{IndexSet, insert_key}
-use Rattle.ir_core.specs.Places.{Name}
+use Rattle.ir_core.specs.Places.{Name, place_from}
 use Rattle.ir_core.specs.Wrappers.{is_in}
 use Rattle.ir_core.specs.declared.module.Block.{Block}
-use Rattle.ir_core.specs.Typing.{goes_to}
-use Rattle.ir_tables.specs.Names.{names_seen}
+use Rattle.ir_core.specs.declared.instructions.Inst.{Inst}
+use Rattle.ir_core.specs.Typing.{goes_to, targets_of}
+use Rattle.ir_tables.proofs.Places.{same_turned}
+use Rattle.ir_tables.specs.Names.{names_seen, found_place, HasPlaces}
 use Rattle.ir_names.specs.Branches.{set_names, sources, if_target, Grows, HasSources}
 
 pub is_in-append : (xs ys : List Name) (y : Name) → is_in (xs ++ ys) y ≡ (if is_in xs y then true else is_in ys y)
@@ -21,9 +26,9 @@ is_in-append (x ∷ xs) ys y = elim (bytes_eq y x) as (λ b. (if b then true els
 
 -- ---- a name more in a set
 
-any_seen : (ks : List (Bor (List ℕ))) (x : Name) → list_any (λ (k : Bor (List ℕ)). bytes_eq x k.now) ks ≡ is_in (names_seen ks) x
-any_seen [] x = refl
-any_seen (k ∷ ks) x = elim (bytes_eq x k.now) as (λ b. (b || list_any (λ (j : Bor (List ℕ)). bytes_eq x j.now) ks) ≡ (if b then true else is_in (names_seen ks) x)) [ true ↦ refl | false ↦ any_seen ks x ]
+pub contains_name : (ks : List (Bor (List ℕ))) (x : Name) → list_any (λ (k : Bor (List ℕ)). bytes_eq x k.now) ks ≡ is_in (names_seen ks) x
+contains_name [] x = refl
+contains_name (k ∷ ks) x = elim (bytes_eq x k.now) as (λ b. (b || list_any (λ (j : Bor (List ℕ)). bytes_eq x j.now) ks) ≡ (if b then true else is_in (names_seen ks) x)) [ true ↦ refl | false ↦ contains_name ks x ]
 
 -- a name that the set has
 had : (ks : List (Bor (List ℕ))) (k : Bor (List ℕ)) (y : Name) (a b : Bool) → is_in (names_seen ks) k.now ≡ true → is_in (names_seen ks) y ≡ a → bytes_eq y k.now ≡ b → a ≡ (if a then true else (if b then true else false))
@@ -35,7 +40,7 @@ pub inserted : (ks : List (Bor (List ℕ))) (k : Bor (List ℕ)) (y : Name) → 
 inserted ks k y = by (list_any (λ (j : Bor (List ℕ)). bytes_eq k.now j.now) ks) refl
   where
     by : (b : Bool) → list_any (λ (j : Bor (List ℕ)). bytes_eq k.now j.now) ks ≡ b → is_in (names_seen (if b then ks else ks ++ k ∷ [])) y ≡ is_in (names_seen ks ++ k.now ∷ []) y
-    by true e = had ks k y (is_in (names_seen ks) y) (bytes_eq y k.now) (sym (any_seen ks k.now) ∙ e) refl refl ∙ sym (is_in-append (names_seen ks) (k.now ∷ []) y)
+    by true e = had ks k y (is_in (names_seen ks) y) (bytes_eq y k.now) (sym (contains_name ks k.now) ∙ e) refl refl ∙ sym (is_in-append (names_seen ks) (k.now ∷ []) y)
     by false e = ap (λ ns. is_in ns y) (map-append (λ (n : Bor (List ℕ)). n.now) ks (k ∷ []))
 
 -- ---- a block more in a table
@@ -102,3 +107,73 @@ targets_more f xs i d x low is =
     ∙ ap (flat_map f) (take-suc xs i d low)
     ∙ flat_map-push f (take i xs) (get_or xs i d)
     ∙ ap (λ z. flat_map f (take i xs) ++ f z) (sym is)
+
+map-push : {A : Type 0} (f : A → Name) (xs : List A) (x : A) → map f (xs ++ x ∷ []) ≡ map f xs ++ f x ∷ []
+map-push f xs x = map-append f xs (x ∷ [])
+
+pub names_more : {A : Type 0} (f : A → Name) (xs : List A) (i : ℕ) (d x : A) → i < length xs → x ≡ get_or xs i d → map f (take (i + 1) xs) ≡ map f (take i xs) ++ f x ∷ []
+names_more f xs i d x low is =
+    ap (λ n. map f (take n xs)) (add-one i)
+    ∙ ap (map f) (take-suc xs i d low)
+    ∙ map-push f (take i xs) (get_or xs i d)
+    ∙ ap (λ z. map f (take i xs) ++ f z ∷ []) (sym is)
+
+module _ {S T : Type 0} where
+  -- the blocks so far, with one more
+  pub sources_more : (blocks : List Block) (i : ℕ) (d b : Block) (old new : IndexMap (Bor (List ℕ)) (IndexSet (Bor (List ℕ)) T) S) → i < length blocks → b ≡ get_or blocks i d →
+      HasSources (take i blocks) old → Grows b.name (flat_map (λ (j : Inst). targets_of j.kind) b.insts) old new → HasSources (take (i + 1) blocks) new
+  sources_more blocks i d b old new low is before more = λ x y.
+      more x y
+      ∙ with_more (sources old x) (flat_map (goes_to x) (take i blocks)) (goes_to x b) y (before x y)
+      ∙ ap (λ l. is_in l y) (sym (targets_more (goes_to x) blocks i d b low is))
+
+-- ---- all of the blocks
+
+pub all_members : (p : Name → Bool) (xs : List Name) → Decides (list_all p xs) ((x : Name) → is_in xs x ≡ true → p x ≡ true)
+all_members p xs = (each xs, all xs)
+  where
+    at : (y x : Name) (ys : List Name) (b : Bool) → bytes_eq x y ≡ b → p y ≡ true → (is_in ys x ≡ true → p x ≡ true) → (if b then true else is_in ys x) ≡ true → p x ≡ true
+    at y x ys true e first rest m = ap p ((bytes_eq-Decides x y).0 e) ∙ first
+    at y x ys false e first rest m = rest m
+
+    each : (ys : List Name) → list_all p ys ≡ true → (x : Name) → is_in ys x ≡ true → p x ≡ true
+    each [] e x m = absurd (both_ways false refl m)
+    each (y ∷ ys) e x m = let q = and_parts (p y) (list_all p ys) e in at y x ys (bytes_eq x y) refl q.0 (each ys q.1 x) m
+
+    all : (ys : List Name) → ((x : Name) → is_in ys x ≡ true → p x ≡ true) → list_all p ys ≡ true
+    all [] h = refl
+    all (y ∷ ys) h =
+        and_from (p y) (list_all p ys)
+        (h y (ap (λ b. if b then true else is_in ys y) ((bytes_eq-Decides y y).1 refl)))
+        (all ys (λ x m. h x (elim (bytes_eq x y) as (λ b. (if b then true else is_in ys x) ≡ true) [ true ↦ refl | false ↦ m ])))
+
+-- lists with the same names
+pub all_same_members : (p : Name → Bool) (xs ys : List Name) → ((x : Name) → is_in xs x ≡ is_in ys x) → list_all p xs ≡ list_all p ys
+all_same_members p xs ys same =
+    let of_xs = all_members p xs in
+    let of_ys = all_members p ys in
+    same_from_decides (list_all p xs) (list_all p ys) of_xs ((λ e x m. of_ys.0 e x (sym (same x) ∙ m)), (λ h. of_ys.1 (λ x m. h x (same x ∙ m))))
+
+pub all_alike : (p q : Name → Bool) (xs : List Name) → ((x : Name) → p x ≡ q x) → list_all p xs ≡ list_all q xs
+all_alike p q [] same = refl
+all_alike p q (x ∷ xs) same = ap (λ b. b && list_all p xs) (same x) ∙ ap (λ b. q x && b) (all_alike p q xs same)
+
+-- a name has a place where it is among the names
+pub has_place : (n : ℕ) (ys : List Name) (x : Name) → is_some (place_from n ys x) ≡ is_in ys x
+has_place n [] x = refl
+has_place n (y ∷ ys) x =
+    ap (λ b. is_some (if b then Some n else place_from (n + 1) ys x)) (same_turned y x)
+    ∙ elim (bytes_eq x y) as (λ b. is_some (if b then Some n else place_from (n + 1) ys x) ≡ (if b then true else is_in ys x)) [ true ↦ refl | false ↦ has_place (n + 1) ys x ]
+
+module _ {S T : Type 0} (blocks : List Block) (table : IndexMap (Bor (List ℕ)) (IndexSet (Bor (List ℕ)) T) S) (has : HasSources blocks table) (x z : Name) (same : z ≡ x) (o : Option (IndexSet (Bor (List ℕ)) T)) (found : o ≡ get_by (λ (k : Bor (List ℕ)). bytes_eq z k.now) table) where
+  -- what the table has for a target
+  pub has_source : (y : Name) → is_in (set_names o) y ≡ is_in (flat_map (goes_to x) blocks) y
+  has_source y =
+      ap (λ s. is_in (set_names s) y) found
+      ∙ ap (λ w. is_in (sources table w) y) same
+      ∙ has x y
+
+  pub has_all : {U : Type 0} (given : IndexMap (Bor (List ℕ)) ℕ U) (names : List Name) → HasPlaces names given → list_all (λ w. is_some (found_place given w)) (set_names o) ≡ list_all (is_in names) (flat_map (goes_to x) blocks)
+  has_all given names places =
+      all_alike (λ w. is_some (found_place given w)) (is_in names) (set_names o) (λ w. ap is_some (places w) ∙ has_place 0 names w)
+      ∙ all_same_members (is_in names) (set_names o) (flat_map (goes_to x) blocks) has_source

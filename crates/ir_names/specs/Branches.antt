@@ -1,5 +1,5 @@
 -- The blocks that branch to a block, in a table.
-use Rattle.std.specs.Prelude.{◌≡◌, ℕ, List, [], ◌∷◌, ◌++◌, map, Option, Some, None, if◌then◌else◌}
+use Rattle.std.specs.Prelude.{◌≡◌, ℕ, List, [], ◌∷◌, ◌++◌, Option, Some, None, if◌then◌else◌}
 use Rattle.std.specs.List.{flat_map}
 use Rattle.std.specs.Borrow.{Bor}
 use Rattle.std.specs.Str.{bytes_eq}
@@ -8,9 +8,13 @@ use Rattle.indexmap.specs.IndexSet.{IndexSet}
 use Rattle.ir_tables.specs.Names.{names_seen}
 use Rattle.ir_core.specs.Places.{Name}
 use Rattle.ir_core.specs.Wrappers.{is_in}
+use Rattle.ir_core.specs.declared.instructions.Case.{Case}
 use Rattle.ir_core.specs.declared.module.Block.{Block}
 use Rattle.ir_core.specs.Typing.{goes_to}
 use Rattle.ir_names.specs.declared.branches.Body.TheInside.{Inside}
+
+abbrev pub case_block : Case → Name
+case_block c = c.block
 
 abbrev pub set_names : {T : Type 0} → Option (IndexSet (Bor (List ℕ)) T) → List Name
 set_names None = []
