@@ -15,10 +15,11 @@ use Rattle.ir_core.specs.Places.{Name, place_from}
 use Rattle.ir_core.specs.Wrappers.{is_in}
 use Rattle.ir_core.specs.declared.module.Block.{Block}
 use Rattle.ir_core.specs.declared.instructions.Inst.{Inst}
-use Rattle.ir_core.specs.Typing.{goes_to, targets_of}
+use Rattle.ir_core.specs.Typing.{goes_to, targets_of, predecessors}
 use Rattle.ir_tables.proofs.Places.{same_turned}
 use Rattle.ir_tables.specs.Names.{names_seen, found_place, HasPlaces}
-use Rattle.ir_names.specs.Branches.{set_names, sources, if_target, Grows, HasSources}
+use Rattle.ir_names.specs.declared.branches.Body.TheInside.{Inside}
+use Rattle.ir_names.specs.Branches.{set_names, sources, if_target, Grows, HasSources, IsBody}
 
 pub is_in-append : (xs ys : List Name) (y : Name) → is_in (xs ++ ys) y ≡ (if is_in xs y then true else is_in ys y)
 is_in-append [] ys y = refl
@@ -165,15 +166,16 @@ has_place n (y ∷ ys) x =
     ap (λ b. is_some (if b then Some n else place_from (n + 1) ys x)) (same_turned y x)
     ∙ elim (bytes_eq x y) as (λ b. is_some (if b then Some n else place_from (n + 1) ys x) ≡ (if b then true else is_in ys x)) [ true ↦ refl | false ↦ has_place (n + 1) ys x ]
 
-module _ {S T : Type 0} (blocks : List Block) (table : IndexMap (Bor (List ℕ)) (IndexSet (Bor (List ℕ)) T) S) (has : HasSources blocks table) (x z : Name) (same : z ≡ x) (o : Option (IndexSet (Bor (List ℕ)) T)) (found : o ≡ get_by (λ (k : Bor (List ℕ)). bytes_eq z k.now) table) where
+module _ (b : Inside) (is : IsBody b) (x z : Name) (same : z ≡ x) where
   -- what the table has for a target
-  pub has_source : (y : Name) → is_in (set_names o) y ≡ is_in (flat_map (goes_to x) blocks) y
-  has_source y =
+  pub has_source : (o : Option (IndexSet (Bor (List ℕ)) _)) → o ≡ get_by (λ (k : Bor (List ℕ)). bytes_eq z k.now) b.sources → (y : Name) → is_in (set_names o) y ≡ is_in (predecessors b.scope.1 x) y
+  has_source o found y =
       ap (λ s. is_in (set_names s) y) found
-      ∙ ap (λ w. is_in (sources table w) y) same
-      ∙ has x y
+      ∙ ap (λ w. is_in (sources b.sources w) y) same
+      ∙ is x y
 
-  pub has_all : {U : Type 0} (given : IndexMap (Bor (List ℕ)) ℕ U) (names : List Name) → HasPlaces names given → list_all (λ w. is_some (found_place given w)) (set_names o) ≡ list_all (is_in names) (flat_map (goes_to x) blocks)
-  has_all given names places =
+  pub has_all : {U : Type 0} (o : Option (IndexSet (Bor (List ℕ)) _)) → o ≡ get_by (λ (k : Bor (List ℕ)). bytes_eq z k.now) b.sources → (given : IndexMap (Bor (List ℕ)) ℕ U) (names : List Name) → HasPlaces names given →
+      list_all (λ w. is_some (found_place given w)) (set_names o) ≡ list_all (is_in names) (predecessors b.scope.1 x)
+  has_all o found given names places =
       all_alike (λ w. is_some (found_place given w)) (is_in names) (set_names o) (λ w. ap is_some (places w) ∙ has_place 0 names w)
-      ∙ all_same_members (is_in names) (set_names o) (flat_map (goes_to x) blocks) has_source
+      ∙ all_same_members (is_in names) (set_names o) (predecessors b.scope.1 x) (has_source o found)

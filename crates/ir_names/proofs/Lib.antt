@@ -1,3 +1,4 @@
 pub mod KeptLaws
 pub mod ListLaws
 pub mod BranchLaws
+pub mod PhiLaws

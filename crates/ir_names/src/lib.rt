@@ -6,6 +6,7 @@ mod branches;
 mod calls;
 mod instructions;
 mod operands;
+mod phis;
 mod results;
 
 pub use addresses::{address, shape};
@@ -16,4 +17,5 @@ pub use instructions::{
     switch,
 };
 pub use operands::{in_type, operand, operand_in, pointer, symbol, target, value_in};
+pub use phis::phi;
 pub use results::{in_order, in_result, is_phi};
