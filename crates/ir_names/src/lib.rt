@@ -2,6 +2,7 @@
 #![tactic(auto)]
 
 mod addresses;
+mod blocks;
 mod branches;
 mod calls;
 mod instructions;
@@ -10,6 +11,7 @@ mod phis;
 mod results;
 
 pub use addresses::{address, shape};
+pub use blocks::{in_inst, in_kind, of_block, of_blocks};
 pub use branches::Body;
 pub use calls::{call, each_operand, if_output, is_entry_point, same_result};
 pub use instructions::{
