@@ -1,5 +1,5 @@
 -- A table of who branches where grows by one block after another.
-use Rattle.std.proofs.Common.{◌≡◌, ℕ, ◌+◌, ◌<◌, is_some, ◌&&◌, List, [], ◌∷◌, ◌++◌, map, length, take, get_or, Option, Some, None, Bool, true, false, ◌||◌, refl, sym, ap, ◌∙◌, if◌then◌else◌, add-one, append_assoc}
+use Rattle.std.proofs.Common.{◌≡◌, ℕ, ◌+◌, ◌<◌, is_some, ◌&&◌, List, [], ◌∷◌, ◌++◌, map, length, take, get_or, Option, Some, Bool, true, false, ◌||◌, refl, sym, ap, ◌∙◌, if◌then◌else◌, add-one, append_assoc}
 use Rattle.std.specs.List.{flat_map, list_any, list_all}
 use Rattle.std.specs.Borrow.{Bor}
 use Rattle.std.specs.Str.{bytes_eq}

@@ -1,5 +1,5 @@
 -- The entries of a phi from one block have one value where each has that of the first.
-use Rattle.std.proofs.Common.{◌≡◌, ◌⊎◌, inl, inr, ℕ, List, [], ◌∷◌, map, Option, Some, None, option_map, Bool, true, false, ◌==◌, ◌&&◌, cond, refl, sym, ap, ◌∙◌, if◌then◌else◌}
+use Rattle.std.proofs.Common.{◌≡◌, ◌⊎◌, inl, inr, List, [], ◌∷◌, Option, Some, None, option_map, Bool, true, false, cond, refl, sym, ap, ◌∙◌, if◌then◌else◌}
 use Rattle.std.specs.List.{list_all, find}
 use Rattle.std.specs.Bool.{Decides}
 use Rattle.std.specs.Str.{bytes_eq}
@@ -94,7 +94,7 @@ one_value edges = same_from_decides (list_all (agrees_with_first edges) edges) (
     pairs : list_all (agrees_with_first edges) edges ≡ true → list_all (λ e. list_all (agrees_with e) edges) edges ≡ true
     pairs all =
         all_from (λ e. list_all (agrees_with e) edges) edges (λ e m.
-          all_from (agrees_with e) edges (λ d n. agree e d (bytes_eq e.block d.block) refl m (all_at (agrees_with_first edges) edges e all m) (all_at (agrees_with_first edges) edges d all n)))
+        all_from (agrees_with e) edges (λ d n. agree e d (bytes_eq e.block d.block) refl m (all_at (agrees_with_first edges) edges e all m) (all_at (agrees_with_first edges) edges d all n)))
 
     firsts : list_all (λ e. list_all (agrees_with e) edges) edges ≡ true → list_all (agrees_with_first edges) edges ≡ true
     firsts all = all_from (agrees_with_first edges) edges (λ e m. first_has_value e edges (all_at (λ c. list_all (agrees_with c) edges) edges e all m))

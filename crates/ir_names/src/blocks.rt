@@ -26,16 +26,48 @@ fn in_other_kind(s: &Scope, kind: &Kind) -> Option<Construct>
     ensures { (block : Listed ℕ) → is_phi kind.now ≡ false → result ≡ least_of (in_kind (scope_of s.now.0 s.now.1) block kind.now) }
 {
     match kind {
-        Kind::Bin { op, flags, ty, a, b } => binary(s, *op, *flags, ty, a, b),
+        Kind::Bin {
+            op,
+            flags,
+            ty,
+            a,
+            b,
+        } => binary(s, *op, *flags, ty, a, b),
         Kind::ICmp { pred, ty, a, b } => comparison(s, *pred, ty, a, b),
         Kind::Cast { op, from, to } => conversion(s, *op, from, to),
         Kind::Select { cond, a, b } => selection(s, cond, a, b),
         Kind::Alloca { ty, .. } => in_type(s.tables(), ty),
-        Kind::Load { ty, at, order, align } => loaded(s, ty, at, *order, *align),
-        Kind::Store { value, at, order, align } => stored(s, value, at, *order, *align),
-        Kind::Rmw { op, at, value, order, align } => rmw(s, *op, at, value, *order, *align),
-        Kind::Gep { inbounds, ty, base, path } => address(s, *inbounds, ty, base, path),
-        Kind::Call { tail, ret, callee, args } => call(s, *tail, ret, callee, args),
+        Kind::Load {
+            ty,
+            at,
+            order,
+            align,
+        } => loaded(s, ty, at, *order, *align),
+        Kind::Store {
+            value,
+            at,
+            order,
+            align,
+        } => stored(s, value, at, *order, *align),
+        Kind::Rmw {
+            op,
+            at,
+            value,
+            order,
+            align,
+        } => rmw(s, *op, at, value, *order, *align),
+        Kind::Gep {
+            inbounds,
+            ty,
+            base,
+            path,
+        } => address(s, *inbounds, ty, base, path),
+        Kind::Call {
+            tail,
+            ret,
+            callee,
+            args,
+        } => call(s, *tail, ret, callee, args),
         Kind::Br { to } => target(s, to),
         Kind::CondBr { cond, yes, no } => conditional_branch(s, cond, yes, no),
         Kind::Switch { on, other, cases } => switch(s, on, other, cases),
@@ -105,11 +137,7 @@ fn of_insts(
 }
 
 /// What is refused of the instructions of a block.
-pub fn of_block(
-    alloc: Global,
-    body: &Body,
-    block: &Block,
-) -> Result<Option<Refusal>, OutOfMemory>
+pub fn of_block(alloc: Global, body: &Body, block: &Block) -> Result<Option<Refusal>, OutOfMemory>
     ensures { IfOk result (λ r. r ≡ least (of_block (scope_of body.now.0 body.now.1) block.now)) }
 {
     of_insts(alloc, body, &block.name, block.insts.as_slice())

@@ -111,9 +111,11 @@ fn are_edges_from(
     ensures { IfOk result (λ b. b ≡ are_edges_from (predecessors body.now.1 block.now) edges.now) }
 {
     let places = places_of(alloc, edges)?;
-    Ok(come_from(body, block, edges)
-        && have_all(body, block, edges, &places)
-        && agree(edges, &places))
+    Ok(
+        come_from(body, block, edges)
+            && have_all(body, block, edges, &places)
+            && agree(edges, &places),
+    )
 }
 
 fn as_block(local: Option<Local>) -> Option<Construct>

@@ -14,14 +14,14 @@ use Rattle.ir_names.proofs.branches.add.Goals as goal
 pub returns-in-Some : goal.returns-in-Some
 returns-in-Some c =
     on_ok_weaker c.add_block.result (λ grown. λ x y.
-      let held = c.get_mut.follows.holds c.add_block.new.blocks in
-      let key : Bor (List ℕ) = record { ref_ptr = c.args.target.ref_ptr; now = x } in
-      let old = get_by (λ (k : Bor (List ℕ)). bytes_eq x k.now) c.args.sources.now in
-      added c.args.target.now c.args.block.now x y (Some c.in-Some.blocks.now) (Some c.add_block.new.blocks) (grown y) old
-      (get_by (λ (k : Bor (List ℕ)). bytes_eq x k.now) (c.get_mut.follows.lender c.add_block.new.blocks))
-      (bytes_eq x c.args.target.now) refl
-      (λ e. ap (λ z. get_by (λ (k : Bor (List ℕ)). bytes_eq z k.now) c.args.sources.now) ((bytes_eq-Decides x c.args.target.now).0 e) ∙ sym c.in-Some.ensures.value)
-      ((held.3 (search rules)).0 key ∙ ap (λ b. if b then Some c.add_block.new.blocks else old) (same_turned c.args.target.now x))
+    let held = c.get_mut.follows.holds c.add_block.new.blocks in
+    let key : Bor (List ℕ) = record { ref_ptr = c.args.target.ref_ptr; now = x } in
+    let old = get_by (λ (k : Bor (List ℕ)). bytes_eq x k.now) c.args.sources.now in
+    added c.args.target.now c.args.block.now x y (Some c.in-Some.blocks.now) (Some c.add_block.new.blocks) (grown y) old
+    (get_by (λ (k : Bor (List ℕ)). bytes_eq x k.now) (c.get_mut.follows.lender c.add_block.new.blocks))
+    (bytes_eq x c.args.target.now) refl
+    (λ e. ap (λ z. get_by (λ (k : Bor (List ℕ)). bytes_eq z k.now) c.args.sources.now) ((bytes_eq-Decides x c.args.target.now).0 e) ∙ sym c.in-Some.ensures.value)
+    ((held.3 (search rules)).0 key ∙ ap (λ b. if b then Some c.add_block.new.blocks else old) (same_turned c.args.target.now x))
     ) c.add_block.ensures
 
 pub returns-in-Ok : goal.returns-in-Ok

@@ -1,4 +1,4 @@
-use Rattle.std.proofs.Common.{Some, None, ap, sym, ◌∙◌}
+use Rattle.std.proofs.Common.{Some, None, ap, ◌∙◌}
 use Rattle.ir_tables.specs.Names.{found_place}
 use Rattle.name_tables.proofs.First.{found_at}
 use Rattle.ir_names.specs.Phis.{edge_block}

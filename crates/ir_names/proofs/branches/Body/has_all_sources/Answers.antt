@@ -1,4 +1,4 @@
-use Rattle.std.proofs.Common.{List, Some, None, is_some, ap, sym, ◌∙◌}
+use Rattle.std.proofs.Common.{Some, None, is_some, ap, ◌∙◌}
 use Rattle.std.specs.List.{list_all}
 use Rattle.ir_core.specs.declared.module.Module.{Module}
 use Rattle.ir_core.specs.declared.module.Function.{Function}
