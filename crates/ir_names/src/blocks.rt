@@ -1,10 +1,11 @@
 //! What is refused of the instructions of a function, block by block.
 #![tactic(auto, using(name_tables::proofs::ConstructLaws::least_append, name_tables::proofs::RefusalLaws::first_at))]
 
-ghost use Rattle.std.specs.Prelude.{◌≡◌, ◌++◌, List as Listed, ℕ, Bool, false, true, IfOk};
+ghost use Rattle.std.specs.Prelude.{◌≡◌, ◌++◌, [], List as Listed, ℕ, false, true, map, IfOk};
 ghost use Rattle.std.specs.List.{flat_map};
+ghost use Rattle.ir_core.specs.Given.{local_names};
 ghost use Rattle.ir_core.specs.Typing.{in_kind, in_inst, scope_of};
-ghost use Rattle.ir_core.specs.NameRefusals.{at, in_order, is_phi, of_insts, of_block, least};
+ghost use Rattle.ir_core.specs.NameRefusals.{at, in_order, is_phi, of_insts, of_block, repeated, least};
 ghost use Rattle.name_tables.specs.Least.{least_of};
 
 use crate::addresses::address;
@@ -17,8 +18,8 @@ use crate::instructions::{
 use crate::operands::{in_type, target};
 use crate::phis::phi;
 use crate::results::{in_order, in_result, is_phi};
-use ir_core::{Block, Construct, Inst, Kind, Name, OutOfMemory, Refusal};
-use name_tables::{Scope, earlier, lesser, refused_at};
+use ir_core::{Block, Construct, Function, Inst, Kind, Name, OutOfMemory, Refusal};
+use name_tables::{Scope, Tables, earlier, lesser, refused_at};
 use std::alloc::Global;
 
 /// What is refused of an instruction that is no phi.
@@ -162,4 +163,17 @@ pub fn of_blocks(alloc: Global, body: &Body) -> Result<Option<Refusal>, OutOfMem
     ensures { IfOk result (λ r. r ≡ least (flat_map (of_block (scope_of body.now.0 body.now.1)) body.now.1.blocks)) }
 {
     of_each_block(alloc, body, body.scope().function().blocks.as_slice())
+}
+
+/// What is refused of a function below its heading: names that are given twice, and its instructions.
+pub fn of_body<'a>(
+    alloc: Global,
+    tables: &'a Tables<'a>,
+    f: &'a Function,
+) -> Result<Option<Refusal>, OutOfMemory>
+    ensures { IfOk result (λ r. r ≡ least (repeated [] (map (λ n. (n.name, n.line)) (local_names f.now)) ++ flat_map (of_block (scope_of tables.now f.now)) f.now.blocks)) }
+{
+    let body = Body::of(alloc, tables, f)?;
+    let repeated = body.scope().repeated();
+    Ok(earlier(repeated, of_blocks(alloc, &body)?))
 }

@@ -178,7 +178,7 @@ impl<'a> Body<'a> {
     {
         match self.sources.get(target.as_slice()) {
             None => false,
-            Some(blocks) => blocks.contains(block.as_slice()),
+            Some(set) => set.contains(block.as_slice()),
         }
     }
 
@@ -188,7 +188,7 @@ impl<'a> Body<'a> {
     {
         match self.sources.get(target.as_slice()) {
             None => true,
-            Some(blocks) => are_given(blocks.as_slice(), given),
+            Some(set) => are_given(set.as_slice(), given),
         }
     }
 }

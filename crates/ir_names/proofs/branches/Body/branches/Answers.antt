@@ -14,7 +14,7 @@ returns-in-None c =
 
 pub returns-in-Some : goal.returns-in-Some
 returns-in-Some c =
-    let set = c.in-Some.blocks.now in
+    let set = c.in-Some.set.now in
     c.contains.ensures
     ∙ contains_name set.keys c.as_slice-in-Some.result.now
     ∙ ap (is_in (names_seen set.keys)) c.as_slice-in-Some.ensures

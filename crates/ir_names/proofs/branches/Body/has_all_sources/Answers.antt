@@ -17,5 +17,5 @@ pub returns-in-Some : goal.returns-in-Some
 returns-in-Some c = λ names places.
     c.are_given.ensures
     ∙ ap (λ ks. list_all (λ x. is_some (found_place c.args.given.now x)) (names_seen ks)) c.as_slice-in-Some.ensures.keys
-    ∙ has_all c.self.inside c.self.invariant c.args.target.now c.as_slice.result.now c.as_slice.ensures (Some c.in-Some.blocks.now) c.in-Some.ensures.value c.args.given.now names places
+    ∙ has_all c.self.inside c.self.invariant c.args.target.now c.as_slice.result.now c.as_slice.ensures (Some c.in-Some.set.now) c.in-Some.ensures.value c.args.given.now names places
     ∙ ap (λ (s : Module × Function). list_all (is_in names) (predecessors s.1 c.args.target.now)) c.self.view_is
