@@ -87,54 +87,62 @@ fn function(alloc: Global, end: List<Inst>) -> Result<Function, AllocError> {
     })
 }
 
-/// Where the phi is refused as a `type_mismatch`, its line.
-fn mismatch(
-    alloc: Global,
-    entries: &[(u64, &[u8])],
-    fence: bool,
-) -> Result<Option<u32>, OutOfMemory> {
-    let module = Module {
+fn empty_module(alloc: Global) -> Module {
+    Module {
         prelude: List::new(alloc),
         types: List::new(alloc),
         globals: List::new(alloc),
         functions: List::new(alloc),
         tail: List::new(alloc),
-    };
-    let tables = Tables::of(alloc, &module)?;
-    let f = function(alloc, end(alloc, entries, fence)?)?;
-    match of_body(alloc, &tables, &f)? {
+    }
+}
+
+/// The line of a `type_mismatch`; 0 for any other refusal.
+fn mismatch(refused: Option<Refusal>) -> Option<u32> {
+    match refused {
+        None => None,
         Some(
             Refusal {
                 construct: Construct::TypeMismatch,
                 line,
             },
-        ) => Ok(Some(line)),
-        Some(_) => Ok(Some(0)),
-        None => Ok(None),
+        ) => Some(line),
+        Some(_) => Some(0),
     }
 }
 
+/// Where the phi with these entries is refused.
+fn refused(
+    alloc: Global,
+    tables: &Tables,
+    entries: &[(u64, &[u8])],
+    fence: bool,
+) -> Result<Option<u32>, OutOfMemory> {
+    let f = function(alloc, end(alloc, entries, fence)?)?;
+    Ok(mismatch(of_body(alloc, tables, &f)?))
+}
+
+/// Entries of a phi, whether a fence stands before it, and the line where it is refused.
+type Row<'a> = (&'a [(u64, &'a [u8])], bool, Option<u32>);
+
 #[test]
 fn entries_of_a_phi(rt: HostRuntime) -> Result<(), Fail> {
-    let alloc = rt.alloc();
     let left: &[u8] = b"left";
     let right: &[u8] = b"right";
     let entry: &[u8] = b"entry";
-    let whole = [(1, left), (2, right)];
-    assert_eq!(rt; mismatch(alloc, &whole, false)?, None);
-    assert_eq!(rt; mismatch(alloc, &whole, true)?, Some(5));
-    assert_eq!(rt; mismatch(alloc, &[(1, left)], false)?, Some(5));
-    assert_eq!(rt;
-        mismatch(alloc, &[(1, left), (2, right), (3, entry)], false)?,
-        Some(5)
-    );
-    assert_eq!(rt;
-        mismatch(alloc, &[(1, left), (2, right), (2, right)], false)?,
-        None
-    );
-    assert_eq!(rt;
-        mismatch(alloc, &[(1, left), (2, right), (3, right)], false)?,
-        Some(5)
-    );
+    let rows: [Row; 6] = [
+        (&[(1, left), (2, right)], false, None),
+        (&[(1, left), (2, right)], true, Some(5)),
+        (&[(1, left)], false, Some(5)),
+        (&[(1, left), (2, right), (3, entry)], false, Some(5)),
+        (&[(1, left), (2, right), (2, right)], false, None),
+        (&[(1, left), (2, right), (3, right)], false, Some(5)),
+    ];
+    let alloc = rt.alloc();
+    let module = empty_module(alloc);
+    let tables = Tables::of(alloc, &module)?;
+    for (entries, fence, line) in &rows {
+        assert_eq!(rt; refused(alloc, &tables, *entries, *fence)?, *line);
+    }
     Ok(())
 }
