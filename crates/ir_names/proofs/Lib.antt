@@ -1,4 +1,5 @@
-pub mod LesserLaws
 pub mod KeptLaws
 pub mod ListLaws
-pub mod FirstLaws
+pub mod BranchLaws
+pub mod PhiLaws
+pub mod BlockLaws

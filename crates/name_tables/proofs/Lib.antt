@@ -1,2 +1,5 @@
 pub mod First
 pub mod Names
+pub mod ConstructLaws
+pub mod RefusalLaws
+pub mod RepeatedLaws

@@ -1,2 +1,5 @@
 pub mod Kept
 pub mod Tables
+pub mod Least
+pub mod Laws
+pub mod Repeated
