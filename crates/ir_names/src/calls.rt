@@ -17,7 +17,8 @@ use ir_core::{
 };
 use name_tables::{Local, Scope, Symbol, is_void, same_scalar};
 
-fn is_entry_point(name: &Name) -> bool
+/// Whether the name is an entry point's of the device runtime.
+pub fn is_entry_point(name: &Name) -> bool
     ensures { result ≡ is_entry_point name.now }
 {
     Rtl::of(name).is_some()
@@ -34,7 +35,8 @@ fn is_output(name: &Name) -> bool
         || name == b"__kmpc_get_hardware_thread_id_in_block".as_slice()
 }
 
-fn same_result(a: &Ty, b: &Ty) -> bool
+/// Whether both are `void` or the same scalar type.
+pub fn same_result(a: &Ty, b: &Ty) -> bool
     ensures { result ≡ same_result a.now b.now }
 {
     if is_void(a) {
@@ -68,7 +70,8 @@ fn if_unknown(name: &Name) -> Option<Construct>
     }
 }
 
-fn if_output(name: &Name) -> Option<Construct>
+/// `mode_intrinsic` for the name of an entry point that the optimiser alone writes.
+pub fn if_output(name: &Name) -> Option<Construct>
     ensures { result ≡ least_of (if_output name.now) }
 {
     if is_output(name) {

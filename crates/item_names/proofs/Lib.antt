@@ -1,0 +1,4 @@
+pub mod Pairs
+pub mod InitLaws
+pub mod Declared
+pub mod ByLine

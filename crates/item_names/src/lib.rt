@@ -1,0 +1,12 @@
+//! What is refused of the names and types of a module's items: its types, its globals and the headings of its functions.
+#![tactic(auto)]
+
+mod globals;
+mod headings;
+mod initializers;
+mod same;
+
+pub use globals::{of_global, of_globals};
+pub use headings::in_heading;
+pub use initializers::in_init;
+pub use same::same_type;
