@@ -12,7 +12,7 @@ use Rattle.ir_core.specs.FirstForm.{same_scalar, is_scalar}
 use Rattle.ir_core.specs.Given.{result_type, names_in, named_in_layer, type_given, Local as LocalGiven, Register as RegisterGiven, Label as LabelGiven}
 use Rattle.ir_core.specs.Typing.{as_register, calls_local, as_target, expects, is_given, in_type}
 use Rattle.name_tables.specs.Kept.{scalar_of, is_of, is_register_type, local_kept}
-use Rattle.ir_names.specs.Least.{least_of}
+use Rattle.name_tables.specs.Least.{least_of}
 use Rattle.ir_names.specs.Operands.{as_kept, kept_target, kept_callee}
 
 eq_turned : (a b : ℕ) → (a == b) ≡ (b == a)

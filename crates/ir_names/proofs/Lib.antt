@@ -1,4 +1,2 @@
-pub mod LesserLaws
 pub mod KeptLaws
 pub mod ListLaws
-pub mod FirstLaws

@@ -1,5 +1,5 @@
 //! What is refused of a `getelementptr`.
-#![tactic(auto, using(crate::proofs::LesserLaws::least_append))]
+#![tactic(auto, using(name_tables::proofs::ConstructLaws::least_append))]
 
 ghost use Rattle.std.specs.Prelude.{◌≡◌, List as Listed, ℕ, option_copied};
 ghost use Rattle.std.specs.List.{list_all};
@@ -7,13 +7,12 @@ ghost use Rattle.ir_core.specs.declared.types.Ty.{out-Ty};
 ghost use Rattle.ir_core.specs.FirstForm.{is_integer};
 ghost use Rattle.ir_core.specs.Given.{shape_of};
 ghost use Rattle.ir_core.specs.Typing.{in_kind, field_at, inner_type, goes_into, goes_along, scope_of};
-ghost use Rattle.ir_names.specs.Least.{least_of};
+ghost use Rattle.name_tables.specs.Least.{least_of};
 
 use crate::calls::each_operand;
-use crate::least::{expects, lesser};
 use crate::operands::{in_type, pointer};
 use ir_core::{Construct, Kind, List, Ty, Typed, Value};
-use name_tables::{Scope, Tables, is_integer};
+use name_tables::{Scope, Tables, expects, is_integer, lesser};
 
 /// What a type is, where it is a name what the name stands for.
 pub fn shape<'a>(tables: &'a Tables<'a>, ty: &'a Ty) -> &'a Ty

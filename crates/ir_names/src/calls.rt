@@ -1,21 +1,20 @@
 //! What is refused of a call.
-#![tactic(auto, using(crate::proofs::LesserLaws::least_append, crate::proofs::KeptLaws::least_callee))]
+#![tactic(auto, using(name_tables::proofs::ConstructLaws::least_append, crate::proofs::KeptLaws::least_callee))]
 
 ghost use Rattle.std.specs.Prelude.{◌≡◌, List as Listed, ℕ, Some, option_map};
 ghost use Rattle.std.specs.List.{flat_map};
 ghost use Rattle.ir_core.specs.EntryPoints.{is_entry_point};
 ghost use Rattle.ir_core.specs.Typing.{in_kind, calls, calls_symbol, calls_local, same_result, are_arguments, is_output, if_unknown, if_output, if_declared, is_fork, operand_in, scope_of};
 ghost use Rattle.name_tables.specs.Tables.{symbol_seen};
-ghost use Rattle.ir_names.specs.Least.{least_of};
+ghost use Rattle.name_tables.specs.Least.{least_of};
 ghost use Rattle.ir_core.specs.Given.{Routine};
 ghost use Rattle.ir_names.specs.Operands.{kept_callee};
 
-use crate::least::{expects, lesser};
 use crate::operands::{in_type, operand_in};
 use ir_core::{
     Block, Construct, Function, Kind, List, Name, Param, Rtl, TailWord, Ty, Typed, Value,
 };
-use name_tables::{Local, Scope, Symbol, is_void, same_scalar};
+use name_tables::{Local, Scope, Symbol, expects, is_void, lesser, same_scalar};
 
 /// Whether the name is an entry point's of the device runtime.
 pub fn is_entry_point(name: &Name) -> bool

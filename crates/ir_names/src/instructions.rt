@@ -1,17 +1,18 @@
 //! What is refused of an instruction of each kind (LLVM Language Reference, "Instruction Reference").
-#![tactic(auto, using(crate::proofs::LesserLaws::least_append))]
+#![tactic(auto, using(name_tables::proofs::ConstructLaws::least_append))]
 
 ghost use Rattle.std.specs.Prelude.{◌≡◌, List as Listed, ℕ};
 ghost use Rattle.std.specs.List.{flat_map};
 ghost use Rattle.ir_core.specs.Typing.{in_kind, converts, is_narrower, is_atomic, ordered, compared_in_order, case, returned, is_literal, scope_of};
-ghost use Rattle.ir_names.specs.Least.{least_of};
+ghost use Rattle.name_tables.specs.Least.{least_of};
 
-use crate::least::{expects, lesser};
 use crate::operands::{in_type, operand, pointer, target, value_in};
 use ir_core::{
     BinOp, Case, CastOp, Construct, Flags, Kind, List, Name, Order, Pred, RmwOp, Ty, Typed, Value,
 };
-use name_tables::{Scope, is_int_of, is_integer, is_ptr, is_scalar, is_void, same_scalar};
+use name_tables::{
+    Scope, expects, is_int_of, is_integer, is_ptr, is_scalar, is_void, lesser, same_scalar,
+};
 
 /// What is refused of a binary operation.
 pub fn binary(

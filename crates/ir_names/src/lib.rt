@@ -4,9 +4,7 @@
 mod addresses;
 mod calls;
 mod instructions;
-mod least;
 mod operands;
-mod refusals;
 mod results;
 
 pub use addresses::{address, shape};
@@ -15,7 +13,5 @@ pub use instructions::{
     binary, comparison, conditional_branch, conversion, loaded, returned, rmw, selection, stored,
     switch,
 };
-pub use least::{expects, lesser};
 pub use operands::{in_type, operand, operand_in, pointer, symbol, target, value_in};
-pub use refusals::{first, refused_at};
 pub use results::{in_order, in_result, is_phi};

@@ -1,16 +1,15 @@
 //! What is refused of types and operands.
-#![tactic(auto, using(crate::proofs::LesserLaws::least_append, crate::proofs::KeptLaws::least_register, crate::proofs::KeptLaws::least_target))]
+#![tactic(auto, using(name_tables::proofs::ConstructLaws::least_append, crate::proofs::KeptLaws::least_register, crate::proofs::KeptLaws::least_target))]
 
 ghost use Rattle.std.specs.Prelude.{◌≡◌, option_map, ◌++◌, Some, None};
 ghost use Rattle.std.specs.List.{flat_map};
 ghost use Rattle.ir_core.specs.Typing.{in_type, as_symbol, value_in, operand_in, operand, pointer, target, scope_of};
 ghost use Rattle.name_tables.specs.Tables.{symbol_seen};
-ghost use Rattle.ir_names.specs.Least.{least_of};
+ghost use Rattle.name_tables.specs.Least.{least_of};
 ghost use Rattle.ir_names.specs.Operands.{as_kept, kept_target};
 
-use crate::least::{expects, lesser};
 use ir_core::{Construct, Name, Ty, Typed, Value};
-use name_tables::{Local, Scope, Symbol, Tables, is_number_of, is_of, is_ptr};
+use name_tables::{Local, Scope, Symbol, Tables, expects, is_number_of, is_of, is_ptr, lesser};
 
 /// What is refused of the names in a type.
 #[cycle(in_type)]
@@ -49,7 +48,7 @@ fn register(ty: &Ty, local: Option<Local>) -> Option<Construct>
     }
 }
 
-/// What is refused of a value that is what a name of a global or a function stands for.
+/// What is refused of a global or a function as a value at a type; a function is one in a fork alone.
 pub fn symbol(in_fork: bool, ty: &Ty, symbol: Option<Symbol>) -> Option<Construct>
     ensures { result ≡ least_of (as_symbol in_fork ty.now (option_map symbol_seen symbol.entry)) }
 {

@@ -2,11 +2,10 @@
 ghost use Rattle.std.specs.Prelude.{◌≡◌};
 ghost use Rattle.ir_core.specs.Typing.{in_result};
 ghost use Rattle.ir_core.specs.NameRefusals.{in_order, is_phi};
-ghost use Rattle.ir_names.specs.Least.{least_of};
+ghost use Rattle.name_tables.specs.Least.{least_of};
 
-use crate::least::expects;
 use ir_core::{Construct, Kind, Name};
-use name_tables::{is_register_type, result_scalar};
+use name_tables::{expects, is_register_type, result_scalar};
 
 /// What is refused of an instruction's result: it has a scalar type.
 #[tactic(auto, using(crate::proofs::KeptLaws::least_result))]

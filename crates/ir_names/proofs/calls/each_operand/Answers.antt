@@ -1,5 +1,5 @@
 use Rattle.ir_core.specs.Typing.{operand_in, scope_of}
-use Rattle.ir_names.proofs.LesserLaws.{least_more}
+use Rattle.name_tables.proofs.ConstructLaws.{least_more}
 use Rattle.ir_names.proofs.calls.each_operand.Goals as goal
 
 pub loop-v-preserved : goal.loop-v-preserved

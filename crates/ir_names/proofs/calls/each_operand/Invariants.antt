@@ -1,7 +1,7 @@
 use Rattle.std.proofs.Common.{◌≡◌, take}
 use Rattle.std.specs.List.{flat_map}
 use Rattle.ir_core.specs.Typing.{operand_in, scope_of}
-use Rattle.ir_names.specs.Least.{least_of}
+use Rattle.name_tables.specs.Least.{least_of}
 use Rattle.ir_names.proofs.calls.each_operand.Given as goal
 
 abbrev pub invariant-loop-v : goal.invariant-loop-v

@@ -1,5 +1,5 @@
 use Rattle.ir_core.specs.Typing.{case, scope_of}
-use Rattle.ir_names.proofs.LesserLaws.{least_more}
+use Rattle.name_tables.proofs.ConstructLaws.{least_more}
 use Rattle.ir_names.proofs.instructions.each_case.Goals as goal
 
 pub loop-item-preserved : goal.loop-item-preserved

@@ -1,9 +1,9 @@
 use Rattle.std.proofs.Common.{ap, ◌∙◌}
 use Rattle.std.specs.List.{flat_map}
 use Rattle.ir_core.specs.Typing.{in_type}
-use Rattle.ir_names.specs.Least.{least_of}
+use Rattle.name_tables.specs.Least.{least_of}
 use Rattle.ir_names.proofs.KeptLaws.{struct_type}
-use Rattle.ir_names.proofs.LesserLaws.{least_more}
+use Rattle.name_tables.proofs.ConstructLaws.{least_more}
 use Rattle.ir_names.proofs.operands.+in_type.Goals as goal
 
 pub in_type-returns-in-Struct : goal.in_type-returns-in-Struct

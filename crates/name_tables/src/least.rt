@@ -2,7 +2,7 @@
 ghost use Rattle.std.specs.Prelude.{◌≡◌};
 ghost use Rattle.ir_core.specs.Notes.{construct_number};
 ghost use Rattle.ir_core.specs.Typing.{expects};
-ghost use Rattle.ir_names.specs.Least.{or_lesser, least_of};
+ghost use Rattle.name_tables.specs.Least.{or_lesser, least_of};
 
 use ir_core::Construct;
 

@@ -1,12 +1,13 @@
--- The least of two lists is the lesser of theirs.
+-- The construct of least number of two lists is the lesser of theirs; no two constructs have one number.
 use Rattle.std.proofs.Common.{◌≡◌, ℕ, ◌<◌, List, [], ◌∷◌, ◌++◌, Option, Some, None, Bool, true, false, refl, sym, ap, ◌∙◌, if◌then◌else◌, nat_lt, arith, ◌+◌, length, take, get_or, add-one}
 use Rattle.std.specs.List.{flat_map}
 use Rattle.std.proofs.Math.Seq.{take-suc}
 use Rattle.std.proofs.lemmas.List.{append-nil}
 use Rattle.std.proofs.lemmas.Bool.Decides.{nat_tests}
 use Rattle.ir_core.specs.declared.refusal.Construct.{Construct}
+use Rattle.ir_core.specs.declared.refusal.Construct.TheVariants.{Syntax, DuplicateName, MissingName, TypeMismatch, FloatType, VectorType, WideInteger, AddressSpace, UndefValue, AggregateValue, VolatileAccess, InlineAsm, IndirectCall, UnknownCallee, Invoke, PointerOrder, MetadataOperand, Signature, KernelShape, SpmdInput, WrapperShape, ClauseArgument, NestedParallel, Limit, ModeIntrinsic, ConstantExpression, NotBuilt}
 use Rattle.ir_core.specs.Notes.{construct_number}
-use Rattle.ir_names.specs.Least.{lesser_of, or_lesser, least_of}
+use Rattle.name_tables.specs.Least.{lesser_of, or_lesser, least_of}
 
 both_before : (p q r : ℕ) → nat_lt q p ≡ true → nat_lt r q ≡ true → nat_lt r p ≡ true
 both_before p q r a b = grind (arith, nat_tests)
@@ -57,3 +58,18 @@ module _ {A : Type 0} (f : A → List Construct) where
       ∙ ap (λ ys. least_of (flat_map f ys)) (take-suc xs i d low)
       ∙ least_push (take i xs) (get_or xs i d)
       ∙ ap (λ y. or_lesser (least_of (flat_map f (take i xs))) (least_of (f y))) (sym is)
+
+-- ---- constructs by their numbers
+
+abbrev constructs : List Construct
+constructs =
+    Syntax ∷ Syntax ∷ DuplicateName ∷ MissingName ∷ TypeMismatch ∷ FloatType ∷ VectorType ∷ WideInteger ∷ AddressSpace ∷ UndefValue
+    ∷ AggregateValue ∷ VolatileAccess ∷ InlineAsm ∷ IndirectCall ∷ UnknownCallee ∷ Invoke ∷ PointerOrder ∷ MetadataOperand ∷ Signature
+    ∷ KernelShape ∷ SpmdInput ∷ WrapperShape ∷ ClauseArgument ∷ NestedParallel ∷ Limit ∷ ModeIntrinsic ∷ ConstantExpression ∷ NotBuilt ∷ []
+
+by_number : (c : Construct) → get_or constructs (construct_number c) Syntax ≡ c
+by_number Syntax = refl
+by_number _ = refl
+
+pub one_of_a_number : (c d : Construct) → construct_number c ≡ construct_number d → c ≡ d
+one_of_a_number c d e = sym (by_number c) ∙ ap (λ n. get_or constructs n Syntax) e ∙ by_number d

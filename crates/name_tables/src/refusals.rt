@@ -1,7 +1,7 @@
 //! Of all refusals of a module the one of the least line is told, and on one line the one of the least number.
 ghost use Rattle.std.specs.Prelude.{◌≡◌};
 ghost use Rattle.ir_core.specs.NameRefusals.{is_before};
-ghost use Rattle.ir_names.specs.Least.{or_first, at_line};
+ghost use Rattle.name_tables.specs.Least.{or_first, at_line};
 
 use crate::least::number;
 use ir_core::{Construct, Refusal};
@@ -17,7 +17,7 @@ fn is_before(a: Refusal, b: Refusal) -> bool
 }
 
 /// The one that is told, where there are two.
-pub fn first(a: Option<Refusal>, b: Option<Refusal>) -> Option<Refusal>
+pub fn earlier(a: Option<Refusal>, b: Option<Refusal>) -> Option<Refusal>
     ensures { result ≡ or_first a b }
 {
     match (a, b) {
