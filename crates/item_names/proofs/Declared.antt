@@ -14,11 +14,9 @@ use Rattle.ir_core.specs.FirstForm.{same_scalar}
 use Rattle.ir_core.specs.NameRefusals.{is_result_of, are_declared, is_declared_as}
 use Rattle.name_tables.specs.Kept.{is_of}
 use Rattle.std.specs.Prelude.{Some}
+use Rattle.item_names.specs.Headings.{is_typed}
 
-abbrev pub is_typed : Rtl → Ty → List Param → Bool
-is_typed r ret params = is_result_of r ret && are_declared (entry_point r).params params
-
-abbrev pub is_declared : List ℕ → Ty → List Param → Rtl → Bool
+abbrev is_declared : List ℕ → Ty → List Param → Rtl → Bool
 is_declared x ret params r = bytes_eq x (entry_name r) && is_result_of r ret && are_declared (entry_point r).params params
 
 or_nothing : (b : Bool) → (b || false) ≡ b

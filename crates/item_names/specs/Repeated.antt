@@ -4,6 +4,8 @@ use Rattle.std.specs.Borrow.{Bor}
 use Rattle.std.specs.Str.{bytes_eq}
 use Rattle.indexmap.specs.IndexMap.{IndexMap, get_by}
 use Rattle.ir_core.specs.declared.module.TypeDef.{TypeDef}
+use Rattle.ir_core.specs.declared.module.Global.{Global as GlobalItem}
+use Rattle.ir_core.specs.declared.module.Function.{Function}
 use Rattle.ir_core.specs.declared.refusal.Refusal.{Refusal}
 use Rattle.ir_core.specs.declared.refusal.Construct.TheVariants.{DuplicateName}
 use Rattle.ir_core.specs.NameRefusals.{at}
@@ -18,6 +20,12 @@ entries_seen es = map entry_seen es
 
 abbrev pub type_entry : TypeDef → Name × ℕ
 type_entry d = (d.name, d.line)
+
+abbrev pub global_entry : GlobalItem → Name × ℕ
+global_entry g = (g.name, g.line)
+
+abbrev pub function_entry : Function → Name × ℕ
+function_entry f = (f.name, f.line)
 
 -- of two places with their lines the one of the earlier line, and on one line the first
 abbrev pub sooner : ℕ × ℕ → Option (ℕ × ℕ) → ℕ × ℕ

@@ -1,15 +1,15 @@
 //! What is refused of globals.
-#![tactic(auto, using(ir_names::proofs::LesserLaws::least_append))]
+#![tactic(auto, using(name_tables::proofs::ConstructLaws::least_append))]
 
 ghost use Rattle.std.specs.Prelude.{◌≡◌};
 ghost use Rattle.std.specs.List.{flat_map};
 ghost use Rattle.ir_core.specs.NameRefusals.{of_global, in_contents, if_entry_point, least};
-ghost use Rattle.ir_names.specs.Least.{least_of};
+ghost use Rattle.name_tables.specs.Least.{least_of};
 
 use crate::initializers::in_init;
 use ir_core::{Construct, Global, Init, Name, Refusal, Ty};
-use ir_names::{first, in_type, is_entry_point, lesser, refused_at};
-use name_tables::Tables;
+use ir_names::{in_type, is_entry_point};
+use name_tables::{Tables, earlier, lesser, refused_at};
 
 fn if_entry_point(name: &Name) -> Option<Construct>
     ensures { result ≡ least_of (if_entry_point name.now) }
@@ -26,12 +26,12 @@ fn in_contents(tables: &Tables, ty: &Ty, init: &Option<Init>) -> Option<Construc
 {
     match init {
         None => Some(Construct::MissingName),
-        Some(init) => in_init(tables, ty, init),
+        Some(init) => in_init(tables, init, ty),
     }
 }
 
 /// What is refused of a global: its type, what it holds at first, and the name of an entry point.
-#[tactic(auto, using(ir_names::proofs::LesserLaws::least_append, ir_names::proofs::FirstLaws::first_at))]
+#[tactic(auto, using(name_tables::proofs::ConstructLaws::least_append, name_tables::proofs::RefusalLaws::first_at))]
 pub fn of_global(tables: &Tables, g: &Global) -> Option<Refusal>
     ensures { result ≡ least (of_global tables.now g.now) }
 {
@@ -46,7 +46,7 @@ pub fn of_globals(tables: &Tables, globals: &[Global]) -> Option<Refusal>
 {
     let mut found = None;
     for global in globals {
-        found = first(found, of_global(tables, global));
+        found = earlier(found, of_global(tables, global));
     }
     found
 }

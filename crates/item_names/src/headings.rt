@@ -1,15 +1,17 @@
 //! What is refused of the headings of functions.
-#![tactic(auto, using(ir_names::proofs::LesserLaws::least_append))]
+#![tactic(auto, using(name_tables::proofs::ConstructLaws::least_append))]
 
-ghost use Rattle.std.specs.Prelude.{◌≡◌, map};
+ghost use Rattle.std.specs.Prelude.{◌≡◌, [], ◌∷◌, map, if◌then◌else◌};
 ghost use Rattle.std.specs.List.{flat_map};
 ghost use Rattle.ir_core.specs.EntryPoints.{scalar_type, entry_name, entry_point};
 ghost use Rattle.ir_core.specs.NameRefusals.{are_declared, is_result_of, in_declaration, in_signature, in_param, is_result, in_heading};
-ghost use Rattle.ir_names.specs.Least.{least_of};
+ghost use Rattle.ir_core.specs.declared.refusal.Construct.TheVariants.{Signature};
+ghost use Rattle.name_tables.specs.Least.{least_of};
+ghost use Rattle.item_names.specs.Headings.{is_typed};
 
 use ir_core::{Construct, Function, Param, Rtl, Scalar, Ty};
-use ir_names::{expects, if_output, in_type, lesser, same_result};
-use name_tables::{Tables, is_int_of, is_of, is_scalar, is_void};
+use ir_names::{if_output, in_type, same_result};
+use name_tables::{Tables, expects, is_int_of, is_of, is_scalar, is_void, lesser};
 
 fn are_declared(wanted: &[Scalar], params: &[Param]) -> bool
     ensures { result ≡ are_declared (map scalar_type wanted.now) params.now }
@@ -35,21 +37,30 @@ fn is_result_of(entry_point: Rtl, ty: &Ty) -> bool
     }
 }
 
+fn is_typed(f: &Function, entry_point: Rtl) -> bool
+    ensures { result ≡ is_typed entry_point f.now.ret f.now.params }
+{
+    is_result_of(entry_point, &f.ret) && are_declared(entry_point.params(), f.params.as_slice())
+}
+
+fn if_mistyped(is_typed: bool) -> Option<Construct>
+    ensures { result ≡ least_of (if is_typed then [] else Signature ∷ []) }
+{
+    if is_typed {
+        None
+    } else {
+        Some(Construct::Signature)
+    }
+}
+
 fn in_declaration(f: &Function, entry_point: Rtl) -> Option<Construct>
     requires { entry_name entry_point ≡ f.now.name }
     ensures { result ≡ least_of (in_declaration f.now f.now.blocks) }
 {
-    if !f.blocks.is_empty() {
-        return Some(Construct::Signature);
+    match f.blocks.as_slice() {
+        [] => lesser(if_mistyped(is_typed(f, entry_point)), if_output(&f.name)),
+        _ => Some(Construct::Signature),
     }
-    let typed = is_result_of(entry_point, &f.ret)
-        && are_declared(entry_point.params(), f.params.as_slice());
-    let declared = if typed {
-        None
-    } else {
-        Some(Construct::Signature)
-    };
-    lesser(declared, if_output(&f.name))
 }
 
 fn in_signature(f: &Function) -> Option<Construct>

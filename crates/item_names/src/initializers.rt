@@ -1,18 +1,18 @@
 //! What is refused of what a global holds at first (LLVM Language Reference, "Global Variables").
-#![tactic(auto, using(ir_names::proofs::LesserLaws::least_append))]
+#![tactic(auto, using(name_tables::proofs::ConstructLaws::least_append))]
 
 ghost use Rattle.std.specs.Prelude.{◌≡◌, ℕ, length, map};
 ghost use Rattle.std.specs.List.{flat_map, list_all};
 ghost use Rattle.ir_core.specs.declared.types.Ty.{out-Ty};
 ghost use Rattle.ir_core.specs.Given.{same_type};
 ghost use Rattle.ir_core.specs.NameRefusals.{in_init, is_bytes_of, are_items_of, are_fields_of, are_pairwise_same};
-ghost use Rattle.ir_names.specs.Least.{least_of};
+ghost use Rattle.name_tables.specs.Least.{least_of};
 ghost use Rattle.item_names.specs.Parts.{in_element, part_type};
 
 use crate::same::same_type;
 use ir_core::{Construct, Element, Init, Ty};
-use ir_names::{expects, in_type, lesser, shape, symbol};
-use name_tables::{Tables, is_int_of, is_number_of, is_ptr};
+use ir_names::{in_type, shape, symbol};
+use name_tables::{Tables, expects, is_int_of, is_number_of, is_ptr, lesser};
 
 fn is_bytes_of(count: usize, shape: &Ty) -> bool
     ensures { result ≡ is_bytes_of count (out-Ty shape.now) }
@@ -68,7 +68,7 @@ fn are_fields_of(parts: &[Element], shape: &Ty) -> bool
 
 /// What is refused of an initializer of a global, or of a part of one, of the type.
 #[cycle(in_init)]
-pub fn in_init<'a>(tables: &'a Tables<'a>, ty: &'a Ty, init: &'a Init) -> Option<Construct>
+pub fn in_init<'a>(tables: &'a Tables<'a>, init: &'a Init, ty: &'a Ty) -> Option<Construct>
     ensures { result ≡ least_of (in_init tables.now ty.now init.now) }
 {
     match init {
@@ -96,7 +96,7 @@ fn in_parts<'a>(tables: &'a Tables<'a>, parts: &'a [Element]) -> Option<Construc
     for part in parts {
         let refused = lesser(
             in_type(tables, &part.ty),
-            in_init(tables, &part.ty, &part.init),
+            in_init(tables, &part.init, &part.ty),
         );
         found = lesser(found, refused);
     }

@@ -4,9 +4,11 @@
 mod globals;
 mod headings;
 mod initializers;
+mod repeated;
 mod same;
 
 pub use globals::{of_global, of_globals};
 pub use headings::in_heading;
 pub use initializers::in_init;
+pub use repeated::repeated_symbols;
 pub use same::same_type;

@@ -1,7 +1,7 @@
 use Rattle.std.proofs.Common.{◌≡◌, take}
 use Rattle.std.specs.List.{flat_map}
 use Rattle.ir_core.specs.NameRefusals.{in_param}
-use Rattle.ir_names.specs.Least.{least_of}
+use Rattle.name_tables.specs.Least.{least_of}
 use Rattle.item_names.proofs.headings.in_params.Given as goal
 
 abbrev pub invariant-loop-param : goal.invariant-loop-param

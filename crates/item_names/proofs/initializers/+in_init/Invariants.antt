@@ -1,6 +1,6 @@
 use Rattle.std.proofs.Common.{◌≡◌, take}
 use Rattle.std.specs.List.{flat_map}
-use Rattle.ir_names.specs.Least.{least_of}
+use Rattle.name_tables.specs.Least.{least_of}
 use Rattle.item_names.specs.Parts.{in_element}
 use Rattle.item_names.proofs.initializers.+in_init.Given as goal
 
