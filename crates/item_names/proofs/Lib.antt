@@ -2,3 +2,4 @@ pub mod Pairs
 pub mod InitLaws
 pub mod Declared
 pub mod ByLine
+pub mod Entries
