@@ -3,3 +3,4 @@ pub mod InitLaws
 pub mod Declared
 pub mod ByLine
 pub mod Entries
+pub mod Ways

@@ -1,3 +1,4 @@
 pub mod Parts
 pub mod Repeated
 pub mod Headings
+pub mod Circles

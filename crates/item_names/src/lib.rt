@@ -1,6 +1,8 @@
 //! What is refused of the names and types of a module's items: its types, its globals and the headings of its functions.
 #![tactic(auto)]
 
+mod circles;
+mod components;
 mod globals;
 mod headings;
 mod initializers;
