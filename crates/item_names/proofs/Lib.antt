@@ -4,3 +4,7 @@ pub mod Declared
 pub mod ByLine
 pub mod Entries
 pub mod Ways
+pub mod Ranks
+pub mod Contained
+pub mod Fields
+pub mod TypeLaws

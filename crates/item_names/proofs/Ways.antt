@@ -9,7 +9,7 @@ use Rattle.item_names.specs.Circles.{or_none, parts_at, has, leads, is_marked, m
 
 -- ---- tests on the items of a list
 
-true_or_false : {A : Type 0} (b : Bool) → b ≡ true → b ≡ false → A
+pub true_or_false : {A : Type 0} (b : Bool) → b ≡ true → b ≡ false → A
 true_or_false b yes_ no_ = absurd (true≢false (sym yes_ ∙ no_))
 
 pub both_ways : (a b : Bool) → (a ≡ true → b ≡ true) → (b ≡ true → a ≡ true) → a ≡ b
@@ -24,7 +24,7 @@ or_right : (a b : Bool) → b ≡ true → (a || b) ≡ true
 or_right true b e = refl
 or_right false b e = e
 
-itself : (q : ℕ) → (q == q) ≡ true
+pub itself : (q : ℕ) → (q == q) ≡ true
 itself q = grind (arith, nat_tests)
 
 pub same_of : (q r : ℕ) → (q == r) ≡ true → q ≡ r
@@ -53,10 +53,10 @@ any_to test (y ∷ xs) x in_ e = by (y == x) refl (λ h. any_to test xs x h e)
     by true h rest = or_left (test y) (list_any test xs) (ap test (same_of y x h) ∙ e)
     by false h rest = or_right (test y) (list_any test xs) (rest (sym (ap (λ b. b || has x xs) h) ∙ in_))
 
-none_in : (q : ℕ) → has q [] ≡ true → {A : Type 0} → A
+pub none_in : (q : ℕ) → has q [] ≡ true → {A : Type 0} → A
 none_in q e = true_or_false false e refl
 
-has_append : (q : ℕ) (xs ys : List ℕ) → has q (xs ++ ys) ≡ (has q xs || has q ys)
+pub has_append : (q : ℕ) (xs ys : List ℕ) → has q (xs ++ ys) ≡ (has q xs || has q ys)
 has_append q [] ys = refl
 has_append q (x ∷ xs) ys = ap (λ b. (x == q) || b) (has_append q xs ys) ∙ by (x == q)
   where

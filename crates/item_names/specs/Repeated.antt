@@ -8,7 +8,7 @@ use Rattle.ir_core.specs.declared.module.Global.{Global as GlobalItem}
 use Rattle.ir_core.specs.declared.module.Function.{Function}
 use Rattle.ir_core.specs.declared.refusal.Refusal.{Refusal}
 use Rattle.ir_core.specs.declared.refusal.Construct.TheVariants.{DuplicateName}
-use Rattle.ir_core.specs.NameRefusals.{at}
+use Rattle.ir_core.specs.NameRefusals.{at, is_before}
 use Rattle.ir_core.specs.Places.{Name}
 
 -- a name and its line
@@ -55,3 +55,8 @@ is_place place (Some p) = p == place
 -- a name that is given before
 abbrev pub if_second : Bool → ℕ → List Refusal
 if_second second line = if second then at line (DuplicateName ∷ []) else []
+
+-- whether a refusal is told beside what is found
+abbrev pub is_told : Refusal → Option Refusal → Bool
+is_told r None = true
+is_told r (Some found) = is_before r found
