@@ -8,3 +8,4 @@ pub mod Ranks
 pub mod Contained
 pub mod Fields
 pub mod TypeLaws
+pub mod ItemLaws

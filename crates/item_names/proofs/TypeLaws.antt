@@ -224,6 +224,6 @@ module _ (m : Module) (i : ℕ) (d e : TypeDef) (low : i < length m.types) (is :
     e.name ∷ told.0,
     one_before told.0 told.1,
     ap (λ o. or_first o (or_first (least (repeated (e.name ∷ told.0) (map type_entry rest))) (least (flat_map (of_type m) rest)))) after
-    ∙ one_found told.0 found second circle (which ∙ sym (second_type told.0 told.1)) right
-    ∙ told.2,
+        ∙ one_found told.0 found second circle (which ∙ sym (second_type told.0 told.1)) right
+        ∙ told.2,
   )

@@ -4,14 +4,17 @@
 ghost use Rattle.std.specs.Prelude.{◌≡◌, [], ◌∷◌, map, if◌then◌else◌};
 ghost use Rattle.std.specs.List.{flat_map};
 ghost use Rattle.ir_core.specs.EntryPoints.{scalar_type, entry_name, entry_point};
-ghost use Rattle.ir_core.specs.NameRefusals.{are_declared, is_result_of, in_declaration, in_signature, in_param, is_result, in_heading};
+ghost use Rattle.ir_core.specs.NameRefusals.{are_declared, is_result_of, in_declaration, in_signature, in_param, is_result, in_heading, least};
 ghost use Rattle.ir_core.specs.declared.refusal.Construct.TheVariants.{Signature};
 ghost use Rattle.name_tables.specs.Least.{least_of};
 ghost use Rattle.item_names.specs.Headings.{is_typed};
+ghost use Rattle.item_names.specs.Items.{of_heading};
 
-use ir_core::{Construct, Function, Param, Rtl, Scalar, Ty};
+use ir_core::{Construct, Function, Param, Refusal, Rtl, Scalar, Ty};
 use ir_names::{if_output, in_type, same_result};
-use name_tables::{Tables, expects, is_int_of, is_of, is_scalar, is_void, lesser};
+use name_tables::{
+    Tables, earlier, expects, is_int_of, is_of, is_scalar, is_void, lesser, refused_at,
+};
 
 fn are_declared(wanted: &[Scalar], params: &[Param]) -> bool
     ensures { result ≡ are_declared (map scalar_type wanted.now) params.now }
@@ -96,4 +99,16 @@ pub fn in_heading(tables: &Tables, f: &Function) -> Option<Construct>
     let ret = lesser(in_type(tables, &f.ret), expects(is_result(&f.ret)));
     let typed = lesser(ret, in_params(tables, f.params.as_slice()));
     lesser(typed, in_signature(f))
+}
+
+/// What is refused of the headings of all functions.
+#[tactic(auto, using(name_tables::proofs::RefusalLaws::first_at))]
+pub fn of_headings(tables: &Tables, functions: &[Function]) -> Option<Refusal>
+    ensures { result ≡ least (flat_map (of_heading tables.now) functions.now) }
+{
+    let mut found = None;
+    for f in functions {
+        found = earlier(found, refused_at(f.line, in_heading(tables, f)));
+    }
+    found
 }

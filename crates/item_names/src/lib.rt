@@ -6,14 +6,16 @@ mod components;
 mod globals;
 mod headings;
 mod initializers;
+mod items;
 mod parts;
 mod repeated;
 mod same;
 mod types;
 
 pub use globals::{of_global, of_globals};
-pub use headings::in_heading;
+pub use headings::{in_heading, of_headings};
 pub use initializers::in_init;
+pub use items::of_items;
 pub use repeated::repeated_symbols;
 pub use same::same_type;
 pub use types::of_types;
