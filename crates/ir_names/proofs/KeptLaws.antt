@@ -65,7 +65,7 @@ least_target (Some (RegisterGiven given)) = refl
 least_target (Some (LabelGiven zero)) = refl
 least_target (Some (LabelGiven (suc place))) = ap (λ b. least_of (expects (not b))) (not_zero place)
 
-struct_names : (fields : List Ty) → names_in (Struct fields) ≡ flat_map (λ names. names) (map names_in fields)
+pub struct_names : (fields : List Ty) → names_in (Struct fields) ≡ flat_map (λ names. names) (map names_in fields)
 struct_names fields = ap names_in (sym (rolls-Struct fields)) ∙ fold-roll-Ty (List Name) named_in_layer (Ty-F.Struct fields)
 
 -- what is refused of the fields is refused of the struct

@@ -6,7 +6,8 @@ ghost use Rattle.name_tables.specs.Least.{or_first, at_line};
 use crate::least::number;
 use ir_core::{Construct, Refusal};
 
-fn is_before(a: Refusal, b: Refusal) -> bool
+/// Whether the first of two refusals is told before the second.
+pub fn is_before(a: Refusal, b: Refusal) -> bool
     ensures { result ≡ is_before a b }
 {
     if a.line < b.line {

@@ -1,0 +1,11 @@
+pub mod Pairs
+pub mod InitLaws
+pub mod Declared
+pub mod ByLine
+pub mod Entries
+pub mod Ways
+pub mod Ranks
+pub mod Contained
+pub mod Fields
+pub mod TypeLaws
+pub mod ItemLaws
