@@ -1,7 +1,9 @@
 //! The check of a whole module.
 ghost use Rattle.std.specs.Prelude.{◌≡◌, IfOk, IfErr, nat_le, true};
 ghost use Rattle.std.specs.List.{list_all};
-ghost use Rattle.ir_core.specs.FirstForm.{is_first_form, are_functions, only_functions, is_well_formed, has_good_names, instruction_count, instruction_limit, local_names, HasFirstForm};
+ghost use Rattle.ir_core.specs.FirstForm.{is_first_form, are_functions, only_functions, is_well_formed, has_good_names, instruction_count, instruction_limit, local_names};
+ghost use Rattle.ir_core.specs.NameRefusals.{name_refusals, least};
+ghost use Rattle.ir_tables.specs.Checked.{HasNoRefusal};
 ghost use Rattle.ir_core.specs.Text.{is_word};
 ghost use Rattle.ir_check.specs.Names.{entries_of, names_seen, key_of, is_typed, has_good_code, Entry};
 ghost use Rattle.ir_check.specs.Refusal.{IsCheckRefusal};
@@ -10,7 +12,10 @@ use crate::kernel::{declares_deinit, declares_init, is_kernel};
 use crate::names::{Given, given_in, table_of};
 use crate::typing::blocks_well_typed;
 use ir_core::{Block, Construct, Function, Module, Or, OutOfMemory, Refusal, is_word};
-use ir_tables::Checked;
+use ir_names::of_body;
+use ir_tables::{Checked, Indexed};
+use item_names::of_items;
+use name_tables::{Tables, earlier};
 use std::alloc::Global;
 
 const INSTRUCTION_LIMIT: usize = 200_000;
@@ -103,15 +108,35 @@ fn has_first_form(alloc: Global, m: &Module) -> Result<bool, OutOfMemory>
     }
 }
 
-/// The module, known to have no refusal. By now every module that hasn't the first form is refused
-/// as not built, at line 1; the module is then given up.
+/// What is refused of names and types: of all refusals the one of the least line, and on one line of the least number.
+fn names_refused(alloc: Global, m: &Indexed) -> Result<Option<Refusal>, OutOfMemory>
+    ensures { IfOk result (λ r. r ≡ least (name_refusals m.now)) }
+{
+    let tables = Tables::of(m);
+    let mut found = of_items(alloc, &tables)?;
+    for f in m.module().functions.as_slice() {
+        found = earlier(found, of_body(alloc, &tables, f)?);
+    }
+    Ok(found)
+}
+
+/// The module, known to have no refusal, with tables of its names.
+///
+/// # Errors
+///
+/// The least refusal of its names and types, by line and then by number; else `not_built` at line 1 for a module that hasn't the
+/// first form, which is all that is taken by now. The module is then given up.
 pub fn check(alloc: Global, m: Module) -> Result<Checked, Or<Refusal>>
     ensures same { IfOk result (λ c. c ≡ m) }
-    ensures passed { IfOk result (λ c. HasFirstForm m) }
+    ensures passed { IfOk result (λ c. HasNoRefusal m) }
     ensures refused { IfErr result (λ e. IsCheckRefusal m e) }
 {
-    if has_first_form(alloc, &m)? {
-        Ok(Checked::of(alloc, m)?)
+    let m = Indexed::of(alloc, m)?;
+    if let Some(refusal) = names_refused(alloc, &m)? {
+        return Err(Or::Refused(refusal));
+    }
+    if has_first_form(alloc, m.module())? {
+        Ok(Checked::with_tables(m))
     } else {
         Err(Or::Refused(Refusal {
             construct: Construct::NotBuilt,

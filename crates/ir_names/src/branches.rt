@@ -8,7 +8,7 @@ ghost use Rattle.ir_names.specs.Branches.{case_block, Grows, HasSources};
 
 use indexmap::{IndexMap, IndexSet};
 use ir_core::{Block, Case, Function, Inst, Kind, Name, OutOfMemory};
-use ir_tables::NameTable;
+use ir_tables::{NameTable, place};
 use name_tables::{Scope, Tables};
 use std::alloc::Global;
 use std::marker::Model;
@@ -143,7 +143,7 @@ fn are_given(names: &[&[u8]], given: &NameTable) -> bool
     ensures { result ≡ list_all (λ x. is_some (found_place given.now x)) (names_seen names.now) }
 {
     for name in names {
-        if !given.contains_key(*name) {
+        if place(given, *name).is_none() {
             return false;
         }
     }

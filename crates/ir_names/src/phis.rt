@@ -14,7 +14,7 @@ ghost use Rattle.ir_names.specs.Phis.{edge_block, agrees_with_first, kept_block}
 use crate::branches::Body;
 use crate::operands::{in_type, value_in};
 use ir_core::{Construct, Edge, Kind, List, Name, OutOfMemory, Ty, Value};
-use ir_tables::{NameTable, table_of};
+use ir_tables::{NameTable, place, table_of};
 use name_tables::{Local, Scope, expects, is_scalar, lesser};
 use std::alloc::Global;
 
@@ -32,7 +32,7 @@ fn same_value(a: &Value, b: &Value) -> bool
 }
 
 /// The place of the first entry from each block.
-fn places_of<'a>(alloc: Global, edges: &'a [Edge]) -> Result<NameTable<'a>, OutOfMemory>
+fn places_of(alloc: Global, edges: &[Edge]) -> Result<NameTable, OutOfMemory>
     ensures { IfOk result (λ t. HasPlaces (map edge_block edges.now) t) }
 {
     let mut blocks = List::new(alloc);
@@ -52,9 +52,9 @@ fn first_from<'a>(edges: &'a [Edge], places: &NameTable, block: &Name) -> Option
     requires { HasPlaces (map edge_block edges.now) places.now }
     ensures { option_copied result ≡ find (λ d. bytes_eq (edge_block d) block.now) edges.now }
 {
-    match places.get(block.as_slice()) {
+    match place(places, block.as_slice()) {
         None => None,
-        Some(at) => edge_at(edges, *at),
+        Some(at) => edge_at(edges, at),
     }
 }
 

@@ -5,3 +5,4 @@ pub mod Walk
 pub mod Laws
 pub mod Names
 pub mod Indexed
+pub mod Checked

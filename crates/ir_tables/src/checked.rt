@@ -1,6 +1,8 @@
 //! Modules that keep rules, and what passes make of them.
-ghost use Rattle.std.specs.Prelude.{◌≡◌, IfOk, length};
+ghost use Rattle.std.specs.Prelude.{◌≡◌, [], IfOk, length};
 ghost use Rattle.ir_core.specs.FirstForm.{HasFirstForm, HasOutForm};
+ghost use Rattle.ir_core.specs.NameRefusals.{name_refusals};
+ghost use Rattle.ir_tables.specs.Checked.{HasNoRefusal};
 ghost use Rattle.ir_tables.specs.Indexed.{CanBeCounted};
 
 use crate::indexed::Indexed;
@@ -20,7 +22,7 @@ impl Model for Checked {
     ghost use Rattle.ir_core.specs.contracts.types.Ty as ty;
     ghost use Rattle.ir_core.specs.contracts.module.Init as init;
     ghost use Rattle.ir_core.specs.declared.module.Module.{Module};
-    ghost use Rattle.ir_core.specs.FirstForm.{HasFirstForm};
+    ghost use Rattle.ir_tables.specs.Checked.{HasNoRefusal};
 
     ghost Value = { Module };
 
@@ -28,7 +30,7 @@ impl Model for Checked {
 
     ghost view = { λ c. c.indexed };
 
-    ghost invariant = { λ c. HasFirstForm c.indexed };
+    ghost invariant = { λ c. HasNoRefusal c.indexed };
 }
 
 /// The registers of a module that is optimised can be counted: parameters stand in memory, and instructions are limited.
@@ -44,7 +46,7 @@ fn can_be_counted(m: &Module)
 impl Checked {
     /// The module, known to have no refusal, without tables.
     pub fn seal(m: Module) -> Checked
-        requires { HasFirstForm m }
+        requires { HasNoRefusal m }
         ensures { result ≡ m }
     {
         can_be_counted(&m);
@@ -53,19 +55,18 @@ impl Checked {
         }
     }
 
-    /// The module, known to have no refusal, with its tables.
-    pub fn of(alloc: Global, m: Module) -> Result<Checked, OutOfMemory>
-        requires { HasFirstForm m }
-        ensures { IfOk result (λ c. c ≡ m) }
+    /// The module, known to have no refusal, with the tables that it has.
+    pub fn with_tables(indexed: Indexed) -> Checked
+        requires { HasNoRefusal indexed }
+        ensures { result ≡ indexed }
     {
-        Ok(Checked {
-            indexed: Indexed::of(alloc, m)?,
-        })
+        Checked { indexed }
     }
 
     /// The module.
     pub fn module(&self) -> &Module
         ensures same { result.now ≡ self.now }
+        ensures names { name_refusals self.now ≡ [] }
         ensures form { HasFirstForm self.now }
     {
         self.indexed.module()
@@ -74,6 +75,7 @@ impl Checked {
     /// The module with its tables, where they were made.
     pub fn indexed(&self) -> &Indexed
         ensures same { result.now ≡ self.now }
+        ensures names { name_refusals self.now ≡ [] }
         ensures form { HasFirstForm self.now }
     {
         &self.indexed
@@ -82,6 +84,7 @@ impl Checked {
     /// The module alone.
     pub fn into_module(self) -> Module
         ensures same { result ≡ self }
+        ensures names { name_refusals self ≡ [] }
         ensures form { HasFirstForm self }
     {
         self.indexed.into_module()

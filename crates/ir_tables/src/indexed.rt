@@ -87,7 +87,7 @@ impl Indexed {
     {
         match &self.tables {
             None => scan::place_of(self.module.types.as_slice(), name),
-            Some(tables) => place(&tables.types, name),
+            Some(tables) => place(&tables.types, name.as_slice()),
         }
     }
 
@@ -97,7 +97,7 @@ impl Indexed {
     {
         match &self.tables {
             None => scan::place_of(self.module.functions.as_slice(), name),
-            Some(tables) => place(&tables.functions, name),
+            Some(tables) => place(&tables.functions, name.as_slice()),
         }
     }
 
@@ -107,7 +107,7 @@ impl Indexed {
     {
         match &self.tables {
             None => scan::place_of(self.module.globals.as_slice(), name),
-            Some(tables) => place(&tables.globals, name),
+            Some(tables) => place(&tables.globals, name.as_slice()),
         }
     }
 
@@ -117,7 +117,7 @@ impl Indexed {
     {
         match &self.tables {
             None => scan::register_place(self.module.functions.get(function)?, name),
-            Some(tables) => place(&tables.locals.get(function)?.registers, name),
+            Some(tables) => place(&tables.locals.get(function)?.registers, name.as_slice()),
         }
     }
 
@@ -143,7 +143,7 @@ impl Indexed {
     {
         match &self.tables {
             None => scan::place_of(self.module.functions.get(function)?.blocks.as_slice(), name),
-            Some(tables) => place(&tables.locals.get(function)?.blocks, name),
+            Some(tables) => place(&tables.locals.get(function)?.blocks, name.as_slice()),
         }
     }
 

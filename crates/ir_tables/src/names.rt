@@ -87,10 +87,10 @@ pub fn table_of(alloc: Global, names: &[&[u8]]) -> Result<NameTable, OutOfMemory
 }
 
 /// The place that a table has for a name.
-pub fn place(table: &NameTable, name: &Name) -> Option<usize>
+pub fn place(table: &NameTable, name: &[u8]) -> Option<usize>
     ensures { result ≡ found_place table.now name.now }
 {
-    table.get(name.as_slice()).copied()
+    table.get(name).copied()
 }
 
 fn add_names<'a, T: HasName>(names: &mut List<&'a [u8]>, items: &'a [T]) -> Result<(), OutOfMemory>

@@ -15,7 +15,7 @@ use Rattle.ir_core.specs.NameRefusals.{body_names, leads_to, contains_itself}
 use Rattle.ir_core.specs.Places.{Name, place_from, place_in}
 use Rattle.ir_core.specs.Wrappers.{is_in}
 use Rattle.ir_tables.specs.Names.{found_place, HasPlaces}
-use Rattle.name_tables.specs.Tables.{type_name}
+use Rattle.ir_tables.specs.Names.{type_name}
 use Rattle.name_tables.proofs.First.{first_at}
 use Rattle.item_names.specs.Circles.{listed, places_of, parts_of, found_places, found_parts, or_none, parts_at, has, leads}
 use Rattle.item_names.proofs.Ways.{has_append, same_of, true_or_false, itself}

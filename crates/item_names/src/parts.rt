@@ -5,19 +5,16 @@ ghost use Rattle.std.specs.Prelude.{◌≡◌, ◌++◌, map, IfOk, OnOk};
 ghost use Rattle.std.specs.List.{flat_map};
 ghost use Rattle.ir_core.specs.Given.{names_in};
 ghost use Rattle.ir_tables.specs.Names.{HasPlaces, found_place};
-ghost use Rattle.name_tables.specs.Tables.{type_name};
+ghost use Rattle.ir_tables.specs.Names.{type_name};
 ghost use Rattle.item_names.specs.Circles.{found_places, found_parts};
 ghost use Rattle.item_names.specs.Repeated.{is_place};
 
 use ir_core::{List, OutOfMemory, Ty, TypeDef};
-use ir_tables::{NameTable, table_of};
+use ir_tables::{NameTable, place, table_of};
 use std::alloc::Global;
 
 /// The names of types, each with its first place.
-pub(crate) fn names_of<'a>(
-    alloc: Global,
-    types: &'a [TypeDef],
-) -> Result<NameTable<'a>, OutOfMemory>
+pub(crate) fn names_of(alloc: Global, types: &[TypeDef]) -> Result<NameTable, OutOfMemory>
     ensures { IfOk result (λ t. HasPlaces (map type_name types.now) t) }
 {
     let mut names = List::new(alloc);
@@ -25,12 +22,6 @@ pub(crate) fn names_of<'a>(
         names.push(def.name.as_slice())?;
     }
     table_of(alloc, names.as_slice())
-}
-
-fn place(names: &NameTable, name: &[u8]) -> Option<usize>
-    ensures { result ≡ found_place names.now name.now }
-{
-    names.get(name).copied()
 }
 
 /// Whether a name has that place.

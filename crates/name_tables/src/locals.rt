@@ -183,7 +183,7 @@ impl<'a> Scope<'a> {
     pub fn local(&self, name: &Name) -> Option<Local>
         ensures { result ≡ option_map local_kept (local_given (local_names self.now.1) name.now) }
     {
-        match place(&self.places, name) {
+        match place(&self.places, name.as_slice()) {
             None => None,
             Some(at) => local_at(self.names.as_slice(), at),
         }

@@ -5,9 +5,8 @@ ghost use Rattle.ir_tables.specs.Names.{found_place};
 ghost use Rattle.name_tables.specs.Repeated.{is_second, if_second};
 
 use crate::refusals::refused_at;
-use crate::tables::place;
 use ir_core::{Construct, Refusal};
-use ir_tables::NameTable;
+use ir_tables::{NameTable, place};
 
 /// `duplicate_name` for a name that stands at a place and on a line, where a table has an earlier place for it.
 pub fn if_second(places: &NameTable, at: usize, name: &[u8], line: u32) -> Option<Refusal>

@@ -9,11 +9,11 @@ use Rattle.ir_core.specs.declared.answers.Or.TheVariants.{Refused, Memory}
 use Rattle.ir_core.specs.declared.refusal.Refusal.{Refusal}
 use Rattle.ir_core.specs.Language.{Reads}
 use Rattle.ir_core.specs.TextRefusals.{IsTextRefusal}
-use Rattle.ir_core.specs.FirstForm.{HasFirstForm}
 use Rattle.ir_core.specs.MachineOff.{machine_off, Remarks}
 use Rattle.ir_core.specs.Text.{Text}
 use Rattle.ir_core.specs.Notes.{refusal_text, remarks_text}
-use Rattle.ir_core.specs.Refusals.{not_built}
+use Rattle.ir_tables.specs.Checked.{HasNoRefusal}
+use Rattle.ir_check.specs.Refusal.{IsRefused}
 use Rattle.refine_laws.specs.Refines.{RefinesSource}
 use Rattle.io_edge.specs.Outside.{Rose, Grows, GrowsByFront}
 
@@ -38,13 +38,13 @@ IsInputFailed status out notes = (status ≡ 5) × (out ≡ []) × (notes ≡ co
 abbrev pub IsOutOfMemory : ℕ → List ℕ → List ℕ → Type 0
 IsOutOfMemory status out notes = (status ≡ 7) × (out ≡ []) × (notes ≡ codes "ompopt: out of memory\n")
 
--- the text spells this module, which has the form that is taken by now
+-- the text spells this module, of which nothing is refused
 abbrev pub Accepts : List ℕ → Module → Type 0
-Accepts text m = Reads text m × HasFirstForm m
+Accepts text m = Reads text m × HasNoRefusal m
 
--- why a text is refused: no text of the grammar begins so, or its module hasn't the form that is taken by now
+-- why a text is refused: no text of the grammar begins so, or the module that it spells is refused
 abbrev pub IsRefusal : List ℕ → Refusal → Type 0
-IsRefusal text r = IsTextRefusal text r ⊎ ((m : Module) × Reads text m × (HasFirstForm m → ⊥) × (r ≡ not_built))
+IsRefusal text r = IsTextRefusal text r ⊎ ((m : Module) × Reads text m × IsRefused m r)
 
 -- the text spells no module that is taken, or memory ran out
 abbrev pub IsNotAccepted : List ℕ → Or Refusal → Type 0
@@ -55,11 +55,11 @@ IsNotAccepted text Memory = Unit {0}
 abbrev pub IsOptimised : List ℕ → ℕ → List ℕ → List ℕ → Type 0
 IsOptimised text status out notes = (m : Module) × Accepts text m × RefinesSource m (machine_off m) × (status ≡ 0) × (out ≡ Text (machine_off m)) × (notes ≡ remarks_text (Remarks m))
 
-abbrev pub IsRefused : List ℕ → ℕ → List ℕ → List ℕ → Type 0
-IsRefused text status out notes = (r : Refusal) × IsRefusal text r × ((m : Module) → Accepts text m → ⊥) × (status ≡ 3) × (out ≡ []) × (notes ≡ refusal_text r ++ codes "\n")
+abbrev pub IsTextRefused : List ℕ → ℕ → List ℕ → List ℕ → Type 0
+IsTextRefused text status out notes = (r : Refusal) × IsRefusal text r × ((m : Module) → Accepts text m → ⊥) × (status ≡ 3) × (out ≡ []) × (notes ≡ refusal_text r ++ codes "\n")
 
 abbrev pub IsTextReply : List ℕ → ℕ → List ℕ → List ℕ → Type 0
-IsTextReply text status out notes = IsOptimised text status out notes ⊎ IsRefused text status out notes
+IsTextReply text status out notes = IsOptimised text status out notes ⊎ IsTextRefused text status out notes
 
 -- the reply to a file, of which the text is told or not
 abbrev pub IsFileReply : Option (List ℕ) → ℕ → List ℕ → List ℕ → Type 0

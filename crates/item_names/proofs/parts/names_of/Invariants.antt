@@ -1,6 +1,6 @@
 use Rattle.std.proofs.Common.{◌≡◌, take, map}
 use Rattle.ir_tables.specs.Names.{names_seen}
-use Rattle.name_tables.specs.Tables.{type_name}
+use Rattle.ir_tables.specs.Names.{type_name}
 use Rattle.item_names.proofs.parts.names_of.Given as goal
 
 abbrev pub invariant-loop-def : goal.invariant-loop-def

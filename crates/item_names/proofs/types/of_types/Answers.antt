@@ -10,7 +10,7 @@ use Rattle.ir_core.specs.Typing.{in_type, expects}
 use Rattle.ir_core.specs.NameRefusals.{least, contains_itself}
 use Rattle.ir_tables.specs.Names.{found_place, HasPlaces}
 use Rattle.name_tables.specs.Least.{or_first, at_line, least_of}
-use Rattle.name_tables.specs.Tables.{type_name}
+use Rattle.ir_tables.specs.Names.{type_name}
 use Rattle.item_names.specs.Circles.{found_parts, parts_of, parts_at, leads}
 use Rattle.item_names.specs.Repeated.{is_place, if_second}
 use Rattle.item_names.proofs.Contained.{on_circle, parts_found}

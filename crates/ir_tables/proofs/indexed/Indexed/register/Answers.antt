@@ -1,6 +1,7 @@
 use Rattle.std.proofs.Common.{Option, ap, sym, ◌∙◌}
 use Rattle.ir_core.specs.Places.{place_in, register_names_of}
 use Rattle.ir_core.specs.declared.module.Function.{Function}
+use Rattle.ir_tables.specs.Names.{found_place}
 use Rattle.ir_tables.proofs.Naming.{no_function, function_locals, registers_are}
 use Rattle.ir_tables.proofs.indexed.Indexed.register.Goals as goal
 
@@ -13,4 +14,5 @@ pub returns-in_ok-get-in-Some : goal.returns-in_ok-get-in-Some
 returns-in_ok-get-in-Some c =
     let locals = c.in_ok-get-in-Some.field-0.now in
     c.place.ensures
+    ∙ ap (found_place locals.registers) c.as_slice.ensures
     ∙ registers_are _ locals c.args.name.now (function_locals c.self.inside.module c.args.self.now c.self.inside.tables c.in-Some.tables c.self.invariant c.in-Some.is c.self.view_is c.args.function locals c.in_ok-get-in-Some.ensures.value)
