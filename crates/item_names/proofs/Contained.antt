@@ -1,5 +1,5 @@
 -- A type contains itself where it leads to itself by the places of its parts.
-use Rattle.std.proofs.Common.{◌≡◌, ℕ, zero, suc, ◌+◌, List, [], ◌∷◌, ◌++◌, length, map, Option, Some, None, option_map, Bool, true, false, ◌||◌, refl, sym, ap, ◌∙◌, subst, if◌then◌else◌, ◌==◌, arith}
+use Rattle.std.proofs.Common.{◌≡◌, ℕ, zero, suc, ◌+◌, List, [], ◌∷◌, ◌++◌, length, map, Option, Some, None, option_map, Bool, true, false, ◌||◌, refl, sym, ap, ◌∙◌, if◌then◌else◌, ◌==◌, arith}
 use Rattle.std.proofs.lemmas.List.{length-map}
 use Rattle.std.proofs.lemmas.Option.{none-some, same_Some}
 use Rattle.std.proofs.lemmas.Slice.Eq.{bytes_eq-Decides}
@@ -8,16 +8,15 @@ use Rattle.std.specs.List.{flat_map, list_any}
 use Rattle.std.specs.Borrow.{Bor}
 use Rattle.std.specs.Str.{bytes_eq}
 use Rattle.indexmap.specs.IndexMap.{IndexMap}
-use Rattle.ir_core.specs.declared.types.Ty.{Ty}
 use Rattle.ir_core.specs.declared.module.TypeDef.{TypeDef}
 use Rattle.ir_core.specs.Given.{names_in, type_given}
 use Rattle.ir_core.specs.NameRefusals.{body_names, leads_to, contains_itself}
 use Rattle.ir_core.specs.Places.{Name, place_from, place_in}
 use Rattle.ir_core.specs.Wrappers.{is_in}
-use Rattle.ir_tables.specs.Names.{found_place, HasPlaces}
+use Rattle.ir_tables.specs.Names.{HasPlaces}
 use Rattle.name_tables.specs.Tables.{type_name}
 use Rattle.name_tables.proofs.First.{first_at}
-use Rattle.item_names.specs.Circles.{listed, places_of, parts_of, found_places, found_parts, or_none, parts_at, has, leads}
+use Rattle.item_names.specs.Circles.{listed, places_of, parts_of, found_parts, or_none, parts_at, has, leads}
 use Rattle.item_names.proofs.Ways.{has_append, same_of, true_or_false, itself}
 
 -- ---- places of names
