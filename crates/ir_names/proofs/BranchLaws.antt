@@ -2,6 +2,8 @@
 use Rattle.std.proofs.Common.{◌≡◌, ℕ, ◌+◌, ◌<◌, is_some, ◌&&◌, List, [], ◌∷◌, ◌++◌, map, length, take, get_or, Option, Some, Bool, true, false, ◌||◌, refl, sym, ap, ◌∙◌, if◌then◌else◌, add-one, append_assoc}
 use Rattle.std.specs.List.{flat_map, list_any, list_all}
 use Rattle.std.specs.Borrow.{Bor}
+use Rattle.std.specs.declared.alloc.Global.{Global}
+use Rattle.std.specs.declared.vec.Vec.{Vec}
 use Rattle.std.specs.Str.{bytes_eq}
 use Rattle.std.proofs.Math.Seq.{take-suc}
 use Rattle.std.proofs.lemmas.List.{map-append, append-nil}
@@ -174,7 +176,7 @@ module _ (b : Inside) (is : IsBody b) (x z : Name) (same : z ≡ x) where
       ∙ ap (λ w. is_in (sources b.sources w) y) same
       ∙ is x y
 
-  pub has_all : {U : Type 0} (o : Option (IndexSet (Bor (List ℕ)) _)) → o ≡ get_by (λ (k : Bor (List ℕ)). bytes_eq z k.now) b.sources → (given : IndexMap (Bor (List ℕ)) ℕ U) (names : List Name) → HasPlaces names given →
+  pub has_all : {U : Type 0} (o : Option (IndexSet (Bor (List ℕ)) _)) → o ≡ get_by (λ (k : Bor (List ℕ)). bytes_eq z k.now) b.sources → (given : IndexMap (Vec ℕ Global) ℕ U) (names : List Name) → HasPlaces names given →
       list_all (λ w. is_some (found_place given w)) (set_names o) ≡ list_all (is_in names) (predecessors b.scope.1 x)
   has_all o found given names places =
       all_alike (λ w. is_some (found_place given w)) (is_in names) (set_names o) (λ w. ap is_some (places w) ∙ has_place 0 names w)

@@ -1,5 +1,5 @@
 -- A type contains itself where it leads to itself by the places of its parts.
-use Rattle.std.proofs.Common.{◌≡◌, ℕ, zero, suc, ◌+◌, List, [], ◌∷◌, ◌++◌, length, map, Option, Some, None, option_map, Bool, true, false, ◌||◌, refl, sym, ap, ◌∙◌, subst, if◌then◌else◌, ◌==◌, arith}
+use Rattle.std.proofs.Common.{◌≡◌, ℕ, zero, suc, ◌+◌, List, [], ◌∷◌, ◌++◌, length, map, Option, Some, None, option_map, Bool, true, false, ◌||◌, refl, sym, ap, ◌∙◌, if◌then◌else◌, ◌==◌, arith}
 use Rattle.std.proofs.lemmas.List.{length-map}
 use Rattle.std.proofs.lemmas.Option.{none-some, same_Some}
 use Rattle.std.proofs.lemmas.Slice.Eq.{bytes_eq-Decides}
@@ -7,17 +7,17 @@ use Rattle.std.specs.Prelude.{option_and_then, slice_get}
 use Rattle.std.specs.List.{flat_map, list_any}
 use Rattle.std.specs.Borrow.{Bor}
 use Rattle.std.specs.Str.{bytes_eq}
+use Rattle.std.specs.declared.alloc.Global.{Global}
+use Rattle.std.specs.declared.vec.Vec.{Vec}
 use Rattle.indexmap.specs.IndexMap.{IndexMap}
-use Rattle.ir_core.specs.declared.types.Ty.{Ty}
 use Rattle.ir_core.specs.declared.module.TypeDef.{TypeDef}
 use Rattle.ir_core.specs.Given.{names_in, type_given}
 use Rattle.ir_core.specs.NameRefusals.{body_names, leads_to, contains_itself}
 use Rattle.ir_core.specs.Places.{Name, place_from, place_in}
 use Rattle.ir_core.specs.Wrappers.{is_in}
-use Rattle.ir_tables.specs.Names.{found_place, HasPlaces}
-use Rattle.ir_tables.specs.Names.{type_name}
+use Rattle.ir_tables.specs.Names.{type_name, HasPlaces}
 use Rattle.name_tables.proofs.First.{first_at}
-use Rattle.item_names.specs.Circles.{listed, places_of, parts_of, found_places, found_parts, or_none, parts_at, has, leads}
+use Rattle.item_names.specs.Circles.{listed, places_of, parts_of, found_parts, or_none, parts_at, has, leads}
 use Rattle.item_names.proofs.Ways.{has_append, same_of, true_or_false, itself}
 
 -- ---- places of names
@@ -168,5 +168,5 @@ module _ (types : List TypeDef) where
       ∙ ap (list_any (leads parts at (length parts))) (sym (parts_here at d here))
 
   -- the parts that are found by a table
-  pub parts_found : {S : Type 0} (table : IndexMap (Bor (List ℕ)) ℕ S) → HasPlaces names table → found_parts table types ≡ parts
+  pub parts_found : {S : Type 0} (table : IndexMap (Vec ℕ Global) ℕ S) → HasPlaces names table → found_parts table types ≡ parts
   parts_found table places = ap (λ (f : Name → Option ℕ). map (λ (d : TypeDef). flat_map (λ x. listed (f x)) (names_in d.body)) types) (λ i x. places x i)

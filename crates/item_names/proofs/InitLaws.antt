@@ -1,16 +1,16 @@
 -- What is refused of an initializer, by its kind.
-use Rattle.std.proofs.Common.{◌≡◌, ℕ, List, [], ◌∷◌, ◌++◌, length, map, refl, sym, ap, ◌∙◌}
+use Rattle.std.proofs.Common.{◌≡◌, List, [], ◌∷◌, ◌++◌, map, refl, sym, ap, ◌∙◌}
 use Rattle.std.specs.List.{flat_map}
 use Rattle.ir_core.specs.declared.types.Ty.{Ty}
 use Rattle.ir_core.specs.declared.module.Module.{Module}
-use Rattle.ir_core.specs.declared.module.Init.{Init, fold-roll-Init}
+use Rattle.ir_core.specs.declared.module.Init.{fold-roll-Init}
 use Rattle.ir_core.specs.declared.module.Init.TheOpen.{Init-F}
-use Rattle.ir_core.specs.declared.module.Init.TheVariants.{Zero, Int, Null, Addr, Bytes, Square, Braces, rolls-Zero, rolls-Int, rolls-Null, rolls-Addr, rolls-Bytes, rolls-Square, rolls-Braces}
+use Rattle.ir_core.specs.declared.module.Init.TheVariants.{Square, Braces, rolls-Square, rolls-Braces}
 use Rattle.ir_core.specs.declared.module.Element.{Element, fold-Element, fold_out-Element}
 use Rattle.ir_core.specs.declared.refusal.Construct.{Construct}
-use Rattle.ir_core.specs.Given.{shape_of, symbol_given}
-use Rattle.ir_core.specs.Typing.{expects, in_type, as_symbol}
-use Rattle.ir_core.specs.NameRefusals.{Part, part_types, in_parts, init_layer, element_layer, in_init, is_bytes_of, are_items_of, are_fields_of}
+use Rattle.ir_core.specs.Given.{shape_of}
+use Rattle.ir_core.specs.Typing.{expects}
+use Rattle.ir_core.specs.NameRefusals.{Part, part_types, in_parts, init_layer, element_layer, in_init, are_items_of, are_fields_of}
 use Rattle.item_names.specs.Parts.{part_type, in_element}
 
 module _ (m : Module) where

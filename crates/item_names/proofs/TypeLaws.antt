@@ -1,5 +1,5 @@
 -- What is refused of types, told one type after another.
-use Rattle.std.proofs.Common.{◌≡◌, ℕ, zero, suc, ◌+◌, ◌<◌, ◌≤◌, List, [], ◌∷◌, ◌++◌, length, map, take, drop, get_or, Option, Some, None, Bool, true, false, ◌||◌, not, refl, sym, ap, ◌∙◌, subst, if◌then◌else◌, nat_lt, ◌==◌, ◌&&◌, arith, add-one, drop-cons}
+use Rattle.std.proofs.Common.{◌≡◌, ℕ, suc, ◌+◌, ◌<◌, ◌≤◌, List, [], ◌∷◌, ◌++◌, length, map, take, drop, get_or, Option, Some, None, Bool, true, false, ◌||◌, not, refl, sym, ap, ◌∙◌, if◌then◌else◌, nat_lt, ◌==◌, ◌&&◌, arith, add-one, drop-cons}
 use Rattle.std.proofs.Math.Seq.{take-suc}
 use Rattle.std.proofs.lemmas.Bool.Decides.{nat_tests}
 use Rattle.std.proofs.lemmas.List.{drop_all, map-append, length-map, length-take-le, take-append-drop}
@@ -13,7 +13,7 @@ use Rattle.ir_core.specs.declared.refusal.Construct.TheVariants.{DuplicateName, 
 use Rattle.ir_core.specs.declared.refusal.Refusal.{Refusal}
 use Rattle.ir_core.specs.Places.{Name, place_from, place_in}
 use Rattle.ir_core.specs.Typing.{in_type, expects}
-use Rattle.ir_core.specs.NameRefusals.{at, is_before, lesser, least, repeated, of_type, contains_itself}
+use Rattle.ir_core.specs.NameRefusals.{at, least, repeated, of_type, contains_itself}
 use Rattle.ir_core.specs.Wrappers.{is_in}
 use Rattle.ir_tables.proofs.Places.{same_turned}
 use Rattle.name_tables.specs.Least.{or_first, at_line, least_of}

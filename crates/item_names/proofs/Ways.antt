@@ -1,11 +1,11 @@
 -- Ways from parts to parts, and the fronts in which they are found.
-use Rattle.std.proofs.Common.{◌≡◌, ℕ, zero, suc, ◌+◌, ◌-◌, ◌<◌, ◌≤◌, List, [], ◌∷◌, ◌++◌, length, Option, Some, None, Bool, true, false, ◌||◌, ◌&&◌, not, refl, sym, ap, ◌∙◌, subst, if◌then◌else◌, nat_lt, nat_le, ◌==◌, arith, ◌⊎◌, inl, inr, true≢false}
+use Rattle.std.proofs.Common.{◌≡◌, ℕ, zero, suc, ◌<◌, ◌≤◌, List, [], ◌∷◌, ◌++◌, length, Option, Some, None, Bool, true, false, ◌||◌, refl, sym, ap, ◌∙◌, subst, if◌then◌else◌, ◌==◌, arith, ◌⊎◌, inl, inr, true≢false}
 use Rattle.std.proofs.lemmas.Bool.Decides.{nat_tests}
 use Rattle.std.proofs.lemmas.Bool.{cases_lt}
 use Rattle.std.proofs.lemmas.Option.{none-some, slice_get_past}
 use Rattle.std.specs.Prelude.{slice_get, slice_set}
-use Rattle.std.specs.List.{flat_map, fold, list_any, list_all}
-use Rattle.item_names.specs.Circles.{or_none, parts_at, has, leads, is_marked, marked, mark_if, mark, rank_at, are_below, descends_from, may_lead}
+use Rattle.std.specs.List.{flat_map, fold, list_any}
+use Rattle.item_names.specs.Circles.{or_none, parts_at, has, leads, is_marked, marked, mark_if, mark}
 
 -- ---- tests on the items of a list
 

@@ -2,6 +2,8 @@
 use Rattle.std.specs.Prelude.{ℕ, zero, suc, ◌+◌, List, [], ◌∷◌, ◌++◌, map, slice_get, slice_set, Bool, true, false, Option, Some, None, nat_lt, nat_le, ◌==◌, ◌&&◌, not, if◌then◌else◌}
 use Rattle.std.specs.Borrow.{Bor}
 use Rattle.std.specs.List.{flat_map, list_all, list_any}
+use Rattle.std.specs.declared.alloc.Global.{Global}
+use Rattle.std.specs.declared.vec.Vec.{Vec}
 use Rattle.indexmap.specs.IndexMap.{IndexMap}
 use Rattle.ir_core.specs.declared.module.TypeDef.{TypeDef}
 use Rattle.ir_core.specs.Given.{names_in}
@@ -22,10 +24,10 @@ abbrev pub parts_of : List Name → List TypeDef → List (List ℕ)
 parts_of names types = map (λ d. places_of names (names_in d.body)) types
 
 -- the same by a table
-abbrev pub found_places : {S : Type 0} → IndexMap (Bor (List ℕ)) ℕ S → List Name → List ℕ
+abbrev pub found_places : {S : Type 0} → IndexMap (Vec ℕ Global) ℕ S → List Name → List ℕ
 found_places table xs = flat_map (λ x. listed (found_place table x)) xs
 
-abbrev pub found_parts : {S : Type 0} → IndexMap (Bor (List ℕ)) ℕ S → List TypeDef → List (List ℕ)
+abbrev pub found_parts : {S : Type 0} → IndexMap (Vec ℕ Global) ℕ S → List TypeDef → List (List ℕ)
 found_parts table types = map (λ d. found_places table (names_in d.body)) types
 
 -- ---- ways from parts to parts

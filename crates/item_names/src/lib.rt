@@ -10,6 +10,8 @@ mod items;
 mod parts;
 mod repeated;
 mod same;
+#[cfg(test)]
+mod tests;
 mod types;
 
 pub use globals::{of_global, of_globals};

@@ -1,4 +1,4 @@
-use Rattle.std.proofs.Common.{Some, None, ap, ◌∙◌}
+use Rattle.std.proofs.Common.{Some, None, sym, ap, ◌∙◌}
 use Rattle.ir_tables.specs.Names.{found_place}
 use Rattle.name_tables.proofs.First.{found_at}
 use Rattle.ir_names.specs.Phis.{edge_block}
@@ -6,9 +6,9 @@ use Rattle.ir_names.proofs.phis.first_from.Goals as goal
 
 pub returns-in-None : goal.returns-in-None
 returns-in-None c =
-    found_at edge_block c.args.edges.now c.args.block.now None (c.in-None.ensures.value ∙ ap (found_place c.args.places.now) c.as_slice.ensures ∙ c.requires c.args.block.now)
+    found_at edge_block c.args.edges.now c.args.block.now None (sym c.in-None.is ∙ c.place.ensures ∙ ap (found_place c.args.places.now) c.as_slice.ensures ∙ c.requires c.args.block.now)
 
 pub returns-in-Some : goal.returns-in-Some
 returns-in-Some c =
     c.edge_at.ensures
-    ∙ found_at edge_block c.args.edges.now c.args.block.now (Some c.in-Some.at.now) (c.in-Some.ensures.value ∙ ap (found_place c.args.places.now) c.as_slice.ensures ∙ c.requires c.args.block.now)
+    ∙ found_at edge_block c.args.edges.now c.args.block.now (Some c.in-Some.at) (sym c.in-Some.is ∙ c.place.ensures ∙ ap (found_place c.args.places.now) c.as_slice.ensures ∙ c.requires c.args.block.now)

@@ -1,4 +1,4 @@
-use Rattle.std.proofs.Common.{◌≡◌, ℕ, zero, suc, ◌+◌, ◌-◌, length, List, [], ap, sym, ◌∙◌, subst, arith, true, false}
+use Rattle.std.proofs.Common.{◌≡◌, ℕ, suc, ◌-◌, List, [], ap, sym, ◌∙◌, subst, arith}
 use Rattle.std.specs.List.{fold, flat_map, list_any}
 use Rattle.item_names.specs.Circles.{has, mark, leads, parts_at}
 use Rattle.item_names.proofs.Ways.{Stands, first_stand, next_stand, here_now}

@@ -1,4 +1,4 @@
-use Rattle.std.proofs.Common.{◌≡◌, ◌<◌, length, refl, arith, Bool, List, [], ◌∷◌, ◌++◌, ap, ◌∙◌, sym, if◌then◌else◌}
+use Rattle.std.proofs.Common.{◌≡◌, ◌<◌, length, refl, arith, Bool, List, [], ◌∷◌, ap, ◌∙◌, sym, if◌then◌else◌}
 use Rattle.ir_core.specs.declared.module.Block.{Block}
 use Rattle.ir_core.specs.declared.refusal.Construct.{Construct}
 use Rattle.ir_core.specs.declared.refusal.Construct.TheVariants.{Signature}

@@ -1,6 +1,5 @@
-use Rattle.std.proofs.Common.{◌≡◌, Bool, [], Some, None, MatchOption, sym, ap, ◌∙◌, subst, if◌then◌else◌}
-use Rattle.ir_core.specs.EntryPoints.{entry_name, is_entry_point}
-use Rattle.ir_core.specs.NameRefusals.{in_declaration, in_signature}
+use Rattle.std.proofs.Common.{Bool, [], sym, ap, ◌∙◌, if◌then◌else◌}
+use Rattle.ir_core.specs.NameRefusals.{in_declaration}
 use Rattle.ir_core.proofs.EntryPoints.{is_entry_point-some, is_entry_point-none}
 use Rattle.name_tables.specs.Least.{least_of}
 use Rattle.item_names.proofs.headings.in_signature.Goals as goal

@@ -1,9 +1,9 @@
-use Rattle.std.proofs.Common.{◌≡◌, ℕ, ◌+◌, ◌-◌, ◌<◌, List, length, get_or, Some, ap, sym, ◌∙◌, if◌then◌else◌, arith}
+use Rattle.std.proofs.Common.{◌≡◌, ℕ, ◌+◌, ◌-◌, ◌<◌, List, length, get_or, Some, ap, ◌∙◌, if◌then◌else◌, arith}
 use Rattle.std.specs.Borrow.{Bor}
 use Rattle.std.specs.Map.{lookup}
 use Rattle.std.specs.Str.{bytes_eq}
 use Rattle.ir_tables.proofs.Places.{lookup-insert}
-use Rattle.item_names.specs.Repeated.{sooner, found_earliest}
+use Rattle.item_names.specs.Repeated.{sooner}
 use Rattle.item_names.proofs.Entries.{no_entry, with_front}
 use Rattle.item_names.proofs.repeated.firsts_of.Goals as goal
 

@@ -1,7 +1,7 @@
-use Rattle.std.proofs.Common.{◌≡◌, ◌∷◌, ap, sym, ◌∙◌, not}
+use Rattle.std.proofs.Common.{◌∷◌, ap, ◌∙◌, not}
 use Rattle.ir_core.specs.NameRefusals.{least, repeated_by_line}
 use Rattle.name_tables.specs.Least.{or_first}
-use Rattle.item_names.specs.Repeated.{entries_seen, is_earliest, if_second}
+use Rattle.item_names.specs.Repeated.{is_earliest}
 use Rattle.item_names.proofs.Entries.{no_entry, here, rest, one_before, one_found}
 use Rattle.item_names.proofs.repeated.repeated_by_line.Goals as goal
 

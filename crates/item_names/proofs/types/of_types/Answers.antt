@@ -1,18 +1,17 @@
-use Rattle.std.proofs.Common.{◌≡◌, ℕ, ◌+◌, ◌<◌, List, length, get_or, map, Bool, false, Option, Some, not, refl, ap, sym, ◌∙◌, subst, if◌then◌else◌}
+use Rattle.std.proofs.Common.{◌≡◌, ℕ, ◌+◌, ◌<◌, List, length, get_or, map, Bool, false, Some, not, refl, ap, sym, ◌∙◌, subst, if◌then◌else◌}
 use Rattle.std.proofs.lemmas.Option.{slice_get_read}
 use Rattle.std.specs.Prelude.{slice_get}
 use Rattle.std.specs.List.{list_any}
 use Rattle.ir_core.specs.declared.module.TypeDef.{TypeDef}
 use Rattle.ir_core.specs.declared.module.Module.{Module}
-use Rattle.ir_core.specs.declared.refusal.Refusal.{Refusal}
 use Rattle.ir_core.specs.Places.{place_in}
-use Rattle.ir_core.specs.Typing.{in_type, expects}
-use Rattle.ir_core.specs.NameRefusals.{least, contains_itself}
+use Rattle.ir_core.specs.Typing.{expects}
+use Rattle.ir_core.specs.NameRefusals.{contains_itself}
 use Rattle.ir_tables.specs.Names.{found_place, HasPlaces}
 use Rattle.name_tables.specs.Least.{or_first, at_line, least_of}
 use Rattle.ir_tables.specs.Names.{type_name}
 use Rattle.item_names.specs.Circles.{found_parts, parts_of, parts_at, leads}
-use Rattle.item_names.specs.Repeated.{is_place, if_second}
+use Rattle.item_names.specs.Repeated.{is_place}
 use Rattle.item_names.proofs.Contained.{on_circle, parts_found}
 use Rattle.item_names.proofs.TypeLaws.{TypesTold, one_told, place_is, all_told}
 use Rattle.item_names.proofs.types.of_types.Goals as goal

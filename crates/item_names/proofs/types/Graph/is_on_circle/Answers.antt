@@ -1,4 +1,4 @@
-use Rattle.std.proofs.Common.{ℕ, List, length, sym, ap, ◌∙◌, true, false}
+use Rattle.std.proofs.Common.{ℕ, List, length, sym, ap, ◌∙◌}
 use Rattle.item_names.specs.Circles.{parts_at, may_lead}
 use Rattle.item_names.proofs.Ranks.{no_circle}
 use Rattle.item_names.proofs.types.Graph.is_on_circle.Goals as goal
