@@ -35,7 +35,7 @@ pub enum Own {
 }
 
 /// The instruction at which the innermost call stands.
-pub fn inst_at<'a>(m: &Indexed<'a>, s: &ThreadState) -> Option<&'a Inst>
+pub fn inst_at<'a>(m: &'a Indexed, s: &ThreadState) -> Option<&'a Inst>
     ensures value { option_copied result ≡ inst_of m.now s.now }
     ensures within { OnSome result (index_of s.now + 1 < 2 ^ 64) }
 {

@@ -111,7 +111,7 @@ pub fn check(alloc: Global, m: Module) -> Result<Checked, Or<Refusal>>
     ensures refused { IfErr result (λ e. IsCheckRefusal m e) }
 {
     if has_first_form(alloc, &m)? {
-        Ok(Checked::seal(m))
+        Ok(Checked::of(alloc, m)?)
     } else {
         Err(Or::Refused(Refusal {
             construct: Construct::NotBuilt,

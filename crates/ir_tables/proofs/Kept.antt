@@ -8,15 +8,9 @@ use Rattle.ir_core.specs.Layout.{Layout, layer_layout, integer_layout, scalar_la
 use Rattle.ir_tables.specs.declared.laid.Align.{Align}
 use Rattle.ir_tables.specs.declared.laid.Align.TheVariants.{One, Two, Four, Eight}
 use Rattle.ir_tables.specs.declared.laid.Laid.{Laid}
-use Rattle.ir_tables.specs.Laid.{Keeps, align_bytes, scalar_laid, integer_laid, array_laid, empty_laid, with_field, with_fields, padded, layer_laid, laid_of}
+use Rattle.ir_tables.specs.Laid.{Keeps, AreKept, align_bytes, scalar_laid, integer_laid, array_laid, empty_laid, with_field, with_fields, padded, layer_laid, laid_of}
 use Rattle.ir_tables.proofs.Numbers.{Keeps-array, Keeps-field, Keeps-padded, next_layout}
 use Rattle.ir_tables.proofs.Deeper.{layout_by}
-
-abbrev pub AreKept : Option Laid → Option Layout → Type 0
-AreKept None None = Unit {0}
-AreKept None (Some l) = ⊥
-AreKept (Some a) None = ⊥
-AreKept (Some a) (Some l) = Keeps a l
 
 scalar_kept : (a : Align) → Keeps (scalar_laid a) (scalar_layout (align_bytes a))
 scalar_kept One = record { size = refl; low = refl; align = refl }

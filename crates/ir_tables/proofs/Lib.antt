@@ -1,10 +1,14 @@
 pub mod Deeper
 pub mod Numbers
 pub mod Kept
-pub mod Tables
+pub mod Growth
 pub mod Places
-pub mod Named
+pub mod Naming
+pub mod Scans
+pub mod Ranks
+pub mod Counts
 pub mod Sizes
+pub mod Served
 pub mod WellFormed
 pub mod Walks
 pub mod Examples

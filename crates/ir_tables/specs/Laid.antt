@@ -24,6 +24,13 @@ pub record Keeps (laid : Laid) (l : Layout) : Type 0 where
   pub low : laid.low ≡ l.size % 2 ^ 64
   pub align : align_bytes laid.align ≡ l.align
 
+-- the same where there may be none
+abbrev pub AreKept : Option Laid → Option Layout → Type 0
+AreKept None None = Unit {0}
+AreKept None (Some l) = ⊥
+AreKept (Some a) None = ⊥
+AreKept (Some a) (Some l) = Keeps a l
+
 -- a value of so many bytes at multiples of that
 abbrev pub scalar_laid : Align → Laid
 scalar_laid align = record { size = align_bytes align; low = align_bytes align; align = align }

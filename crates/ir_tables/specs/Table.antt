@@ -70,10 +70,6 @@ abbrev pub end_parts : List TypeDef → Option Known → Parts
 end_parts types None = NoParts
 end_parts types (Some known) = own_parts (body_at types known.end)
 
--- what an index goes into, by the table
-abbrev pub table_parts : List TypeDef → Table → Ty → Parts
-table_parts types table ty = layer_parts (λ (x : List ℕ). end_parts types (known_of table x)) (out-Ty ty)
-
 -- ---- a table that is right
 
 -- what is known of a name, with names looked through so deep

@@ -1,15 +1,16 @@
--- The way that the indices of a getelementptr go into a type, by the table.
-use Rattle.std.specs.Prelude.{ℤ, pos, negsuc, ◌+ℤ◌, ◌*ℤ◌, List, [], ◌∷◌, take, slice_get, Option, Some, None, option_map}
+-- The way that the indices of a getelementptr go into a type, one after another.
+use Rattle.std.specs.Prelude.{◌≡◌, ℤ, pos, negsuc, ◌*ℤ◌, List, ◌∷◌, take, slice_get, Option, Some, None, option_map}
 use Rattle.std.specs.Borrow.{Bor}
 use Rattle.std.specs.Int.{int_wrap, w64}
 use Rattle.ir_core.specs.declared.types.Ty.{Ty}
 use Rattle.ir_core.specs.declared.module.TypeDef.{TypeDef}
-use Rattle.ir_core.specs.Layout.{Parts, Items, Fields, NoParts}
+use Rattle.ir_core.specs.Layout.{Parts, Items, Fields, NoParts, plus, inner_offset, WellFormed, Offset}
+use Rattle.ir_tables.specs.declared.named.Named.{Named}
 use Rattle.ir_tables.specs.declared.offsets.Inside.{Inside}
 use Rattle.ir_tables.specs.declared.offsets.Inside.TheVariants.{Items as ItemsInside, Fields as FieldsInside, Nothing}
-use Rattle.ir_tables.specs.declared.table.Table.{Table}
+use Rattle.ir_tables.specs.declared.offsets.Walk.{Walk}
 use Rattle.ir_tables.specs.Laid.{laid_of, fields_laid, stride, start}
-use Rattle.ir_tables.specs.Table.{known_laid, table_parts}
+use Rattle.ir_tables.specs.Named.{name_laid}
 
 -- what the code has an index go into
 abbrev pub parts_seen : Inside → Parts
@@ -24,21 +25,30 @@ Step = ℤ × Ty
 abbrev pub step_seen : ℤ × Bor Ty → Step
 step_seen p = (p.0, p.1.now)
 
-abbrev pub field_step : Table → List Ty → Ty → Step
-field_step table before field = (start (fields_laid (known_laid table) before) (laid_of (known_laid table) field), field)
+abbrev pub field_step : Named → List Ty → Ty → Step
+field_step named before field = (start (fields_laid (name_laid named) before) (laid_of (name_laid named) field), field)
 
-abbrev pub step_into : Table → ℤ → Parts → Option Step
-step_into table i (Items item) = Some (int_wrap w64 (i *ℤ stride (laid_of (known_laid table) item)), item)
-step_into table (pos i) (Fields fields) = option_map (field_step table (take i fields)) (slice_get fields i)
-step_into table (negsuc i) (Fields fields) = None
-step_into table i NoParts = None
+abbrev pub step_into : Named → ℤ → Parts → Option Step
+step_into named i (Items item) = Some (int_wrap w64 (i *ℤ stride (laid_of (name_laid named) item)), item)
+step_into named (pos i) (Fields fields) = option_map (field_step named (take i fields)) (slice_get fields i)
+step_into named (negsuc i) (Fields fields) = None
+step_into named i NoParts = None
 
--- goes on with what is left of a path
-abbrev pub go_on : (ℤ → Ty → Option ℤ) → ℤ → Option Step → Option ℤ
-go_on go sum None = None
-go_on go sum (Some step) = go (int_wrap w64 (sum +ℤ step.0)) step.1
+-- ---- walks
 
--- the sum of all steps of a path, behind those before it
-abbrev pub walk : List TypeDef → Table → List ℤ → ℤ → Ty → Option ℤ
-walk types table [] sum ty = Some sum
-walk types table (i ∷ path) sum ty = go_on (walk types table path) sum (step_into table i (table_parts types table ty))
+abbrev pub rest_offset : List TypeDef → Ty → Option ℤ → List ℤ → Option ℤ
+rest_offset types ty None path = Offset types ty path
+rest_offset types ty (Some sum) path = option_map (λ n. int_wrap w64 n) (plus sum (inner_offset types path ty))
+
+-- what a whole path adds, where these indices come behind those of a walk; none where one of them goes into nothing
+abbrev pub offset_from : List TypeDef → Walk → List ℤ → Option ℤ
+offset_from types walk path = rest_offset types walk.inner.now walk.sum path
+
+-- a walk has come into a well-formed type
+abbrev pub StandsIn : List TypeDef → Walk → Type 0
+StandsIn types walk = WellFormed types walk.inner.now
+
+-- one index further: what is left of a path then adds what the index with it did before
+abbrev pub WalksInto : List TypeDef → Walk → ℤ → Option Walk → Type 0
+WalksInto types walk index None = (path : List ℤ) → offset_from types walk (index ∷ path) ≡ None
+WalksInto types walk index (Some next) = StandsIn types next × ((path : List ℤ) → offset_from types next path ≡ offset_from types walk (index ∷ path))

@@ -1,8 +1,8 @@
 //! Look-ups of named things, made once for a module: its functions, globals, registers and blocks, and how its types lie in memory.
 //!
-//! `laid` reckons with layouts, `table` looks the named ones up, `order` says in which order they are laid out,
-//! and `types` keeps all of it for a module's types. `names` makes tables of other names, and `indexed` keeps all for a module.
-//! `checked` has the modules that keep rules.
+//! `laid` reckons with layouts, `named` gives that of a type, `table` keeps those of the named ones, and `order` says in which order they
+//! are laid out; `offsets` goes into a type. `names` makes tables of names, `tables` all of a module's, and `scan` does without them.
+//! `indexed` has a module with its tables, and `checked` the modules that keep rules.
 #![tactic(auto)]
 
 mod checked;
@@ -12,13 +12,15 @@ mod laid;
 mod laws;
 #[cfg(test)]
 mod name_tests;
+mod named;
 mod names;
 mod offsets;
 mod order;
+mod scan;
 mod table;
+mod tables;
 #[cfg(test)]
 mod tests;
-mod types;
 
 pub use checked::{Changed, Checked, OutModule};
 pub use crossing::checked_cross;
@@ -27,5 +29,5 @@ pub use laws::{
     array_of_structs, byte_and_word, contains_itself, field_of_third, first_item,
     four_numbers_and_pointer, no_fields, no_such_field, one_back,
 };
-pub use names::{NameTable, functions_of, globals_of, table_of};
-pub use types::{Types, offset_of, size_of};
+pub use names::{NameTable, place, table_of};
+pub use offsets::Walk;

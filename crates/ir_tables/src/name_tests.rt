@@ -1,5 +1,6 @@
 //! Look-ups in a small module.
 use crate::indexed::Indexed;
+use crate::scan::place_of;
 use ir_core::{Block, Function, Inst, Kind, List, Module, Name, Order, Param, Ty};
 use std::alloc::{AllocError, Global};
 use std::test::Fail;
@@ -73,7 +74,7 @@ fn some_module(alloc: Global) -> Result<Module, AllocError> {
 fn places_of_names(rt: HostRuntime) -> Result<(), Fail> {
     let alloc = rt.alloc();
     let module = some_module(alloc)?;
-    let indexed = Indexed::of(alloc, &module)?;
+    let indexed = Indexed::of(alloc, module)?;
     let main = Name::from_slice(alloc, b"main")?;
     let a = Name::from_slice(alloc, b"a")?;
     let d = Name::from_slice(alloc, b"d")?;
@@ -90,5 +91,18 @@ fn places_of_names(rt: HostRuntime) -> Result<(), Fail> {
     assert_eq!(rt; indexed.block(1, &d), None);
     assert_eq!(rt; indexed.size_of(&Ty::Ptr), 8);
     assert_eq!(rt; indexed.offset_of(&Ty::Ptr, &[3]), Some(24));
+    assert_eq!(rt; indexed.into_module().functions.len(), 2);
+    Ok(())
+}
+
+#[test]
+fn places_in_lists(rt: HostRuntime) -> Result<(), Fail> {
+    let alloc = rt.alloc();
+    let module = some_module(alloc)?;
+    let main = Name::from_slice(alloc, b"main")?;
+    let exit = Name::from_slice(alloc, b"exit")?;
+    let functions = module.functions.as_slice();
+    assert_eq!(rt; place_of(functions, &main), Some(1));
+    assert_eq!(rt; place_of(functions, &exit), None);
     Ok(())
 }

@@ -3,10 +3,10 @@ ghost use Rattle.std.specs.Prelude.{◌≡◌, length, IfOk};
 ghost use Rattle.std.specs.Str.{bytes_eq};
 ghost use Rattle.indexmap.specs.IndexMap.{get_by};
 ghost use Rattle.ir_core.specs.declared.types.Ty.{out-Ty};
-ghost use Rattle.ir_tables.specs.Laid.{laid_of, fields_laid, stride, start};
 ghost use Rattle.ir_tables.specs.Table.{next_place, ArePlaces, place_of, known_at, known_of, known_laid, layer_end, found_at, count, is_open, LaysOut, Grows, IsSound, IsTable};
 
-use crate::laid::{Align, Laid};
+use crate::laid::Laid;
+use crate::named::{Named, laid_of};
 use indexmap::IndexMap;
 use ir_core::{List, Name, OutOfMemory, Ty, TypeDef};
 use std::alloc::Global;
@@ -100,7 +100,7 @@ impl Table {
     }
 
     /// What is kept of a name's layout.
-    fn laid(&self, name: &Name) -> Option<Laid>
+    pub(crate) fn laid(&self, name: &Name) -> Option<Laid>
         ensures { result ≡ known_laid self.now name.now }
     {
         match self.known(name) {
@@ -123,58 +123,11 @@ impl Table {
     }
 }
 
-/// What is kept of a type's layout; none where it has none, or a name in it isn't known yet.
-#[cycle(laid_of)]
-pub(crate) fn laid_of(table: &Table, ty: &Ty) -> Option<Laid>
-    ensures { result ≡ laid_of (known_laid table.now) ty.now }
-{
-    match ty {
-        Ty::Void => None,
-        Ty::Int(width) => Laid::integer(*width),
-        Ty::Ptr => Some(Laid::scalar(Align::Eight)),
-        Ty::Array(count, item) => Some(laid_of(table, item.get())?.times(*count)),
-        Ty::Struct(fields) => Some(laid_fields(table, fields.as_slice())?.padded()),
-        Ty::Named(name) => table.laid(name),
-    }
-}
-
-/// The same of fields one after another, not yet padded.
-#[cycle(laid_of)]
-fn laid_fields(table: &Table, fields: &[Ty]) -> Option<Laid>
-    ensures { result ≡ fields_laid (known_laid table.now) fields.now }
-{
-    let mut whole = Laid::empty();
-    for field in fields {
-        whole = whole.with(laid_of(table, field)?);
-    }
-    Some(whole)
-}
-
-/// How many bytes a value takes, modulo 2^64; any number for a type without a layout.
-pub(crate) fn stride(table: &Table, ty: &Ty) -> i64
-    ensures { result ≡ stride (laid_of (known_laid table.now) ty.now) }
-{
-    match laid_of(table, ty) {
-        None => 0,
-        Some(laid) => laid.low.cast_signed(),
-    }
-}
-
-/// Where a field starts behind those before it, likewise.
-pub(crate) fn start(table: &Table, before: &[Ty], field: &Ty) -> i64
-    ensures { result ≡ start (fields_laid (known_laid table.now) before.now) (laid_of (known_laid table.now) field.now) }
-{
-    match (laid_fields(table, before), laid_of(table, field)) {
-        (Some(whole), Some(field)) => field.align.round(whole.low).cast_signed(),
-        _ => 0,
-    }
-}
-
 /// What the table gives for the type at a place; none where it has no layout, or not yet.
-fn found(table: &Table, at: usize, body: &Ty) -> Option<Known>
+fn found(table: &Table, types: &[TypeDef], at: usize, body: &Ty) -> Option<Known>
     ensures { result ≡ found_at table.now at body.now }
 {
-    let laid = laid_of(table, body)?;
+    let laid = laid_of(Named::InTable(types, table), body)?;
     Some(Known {
         laid,
         end: table.end(at, body),
@@ -191,7 +144,7 @@ fn lay_out_at(table: &mut Table, types: &[TypeDef], at: usize) -> bool
     if !table.is_open(at) {
         return false;
     }
-    let Some(known) = found(table, at, &def.body) else {
+    let Some(known) = found(table, types, at, &def.body) else {
         return false;
     };
     table.known.set(at, Some(known));

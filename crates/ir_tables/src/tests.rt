@@ -1,6 +1,8 @@
 //! Sizes and offsets by hand, and many types.
-use crate::types::{Types, offset_of, size_of};
-use ir_core::{Boxed, List, Name, Ty, TypeDef};
+use crate::indexed::Indexed;
+use crate::named::{Named, laid_of};
+use crate::offsets::{Walk, walk_into};
+use ir_core::{Boxed, List, Module, Name, Ty, TypeDef};
 use std::alloc::{AllocError, Global};
 use std::test::Fail;
 
@@ -97,15 +99,53 @@ fn add_twice(alloc: Global, types: &mut List<TypeDef>) -> Result<(), AllocError>
     add(alloc, types, b"twice", Ty::Int(16))
 }
 
+fn module_of(alloc: Global, types: List<TypeDef>) -> Module {
+    Module {
+        prelude: List::new(alloc),
+        types,
+        globals: List::new(alloc),
+        functions: List::new(alloc),
+        tail: List::new(alloc),
+    }
+}
+
 #[test]
 fn sizes_and_offsets(rt: HostRuntime) -> Result<(), Fail> {
     let alloc = rt.alloc();
-    let types = Types::of(alloc, some_types(alloc)?.as_slice())?;
+    let indexed = Indexed::of(alloc, module_of(alloc, some_types(alloc)?))?;
     for (shape, size, path, offset) in CASES {
         let ty = made(alloc, shape)?;
-        assert_eq!(rt; size_of(&types, &ty), size);
-        assert_eq!(rt; offset_of(&types, &ty, path), offset);
+        assert_eq!(rt; indexed.size_of(&ty), size);
+        assert_eq!(rt; indexed.offset_of(&ty, path), offset);
     }
+    Ok(())
+}
+
+fn listed_size(types: &[TypeDef], ty: &Ty) -> Option<u64> {
+    Some(laid_of(Named::InList(types, types.len()), ty)?.size)
+}
+
+fn listed_offset(types: &[TypeDef], ty: &Ty, path: &[i64]) -> Option<i64> {
+    let mut walk = Walk::new(ty);
+    for index in path {
+        walk = walk_into(Named::InList(types, types.len()), walk, *index)?;
+    }
+    Some(walk.offset())
+}
+
+#[test]
+fn sizes_and_offsets_by_the_list(rt: HostRuntime) -> Result<(), Fail> {
+    let alloc = rt.alloc();
+    let types = some_types(alloc)?;
+    for (shape, size, path, offset) in CASES {
+        let ty = made(alloc, shape)?;
+        assert_eq!(rt; listed_size(types.as_slice(), &ty), Some(size));
+        assert_eq!(rt; listed_offset(types.as_slice(), &ty, path), offset);
+    }
+    assert_eq!(rt;
+        listed_size(types.as_slice(), &named(alloc, b"twice")?),
+        None
+    );
     Ok(())
 }
 
@@ -136,11 +176,11 @@ fn chain(alloc: Global, count: u32, down: bool) -> Result<List<TypeDef>, AllocEr
 fn long_chains(rt: HostRuntime) -> Result<(), Fail> {
     let alloc = rt.alloc();
     for down in [false, true] {
-        let types = Types::of(alloc, chain(alloc, 20_000, down)?.as_slice())?;
-        assert_eq!(rt; size_of(&types, &numbered(alloc, 40)?), 8 << 40);
-        assert_eq!(rt; size_of(&types, &numbered(alloc, 19_999)?), u64::MAX);
+        let indexed = Indexed::of(alloc, module_of(alloc, chain(alloc, 20_000, down)?))?;
+        assert_eq!(rt; indexed.size_of(&numbered(alloc, 40)?), 8 << 40);
+        assert_eq!(rt; indexed.size_of(&numbered(alloc, 19_999)?), u64::MAX);
         assert_eq!(rt;
-            offset_of(&types, &numbered(alloc, 60)?, &[0, 1, 1]),
+            indexed.offset_of(&numbered(alloc, 60)?, &[0, 1, 1]),
             Some(3 << 61)
         );
     }

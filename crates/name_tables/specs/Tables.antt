@@ -1,17 +1,11 @@
--- A module and a function with their names in tables.
+-- A function with its names in a table, and symbols.
 use Rattle.std.specs.Prelude.{◌≡◌, ℕ, List, map}
-use Rattle.ir_core.specs.declared.module.TypeDef.{TypeDef}
-use Rattle.ir_core.specs.Places.{function_name, global_name}
 use Rattle.ir_core.specs.Given.{Symbol as SymbolGiven, Variable as VariableGiven, Routine as RoutineGiven, LocalName, local_names}
 use Rattle.ir_tables.specs.Names.{HasPlaces}
 use Rattle.name_tables.specs.declared.tables.Symbol.{Symbol}
 use Rattle.name_tables.specs.declared.tables.Symbol.TheVariants.{Variable, Routine}
-use Rattle.name_tables.specs.declared.tables.Tables.TheInside.{Inside as TablesInside}
 use Rattle.name_tables.specs.declared.locals.Scope.TheInside.{Inside as ScopeInside}
 use Rattle.name_tables.specs.Kept.{all_seen, all_kept}
-
-abbrev pub type_name : TypeDef → List ℕ
-type_name d = d.name
 
 abbrev pub local_name : LocalName → List ℕ
 local_name n = n.name
@@ -19,12 +13,6 @@ local_name n = n.name
 abbrev pub symbol_seen : Symbol → SymbolGiven
 symbol_seen Variable = VariableGiven
 symbol_seen (Routine f) = RoutineGiven f.now
-
--- the tables are those of the module
-pub record AreTables (t : TablesInside) : Type 0 where
-  pub types : HasPlaces (map type_name t.module.now.types) t.types
-  pub globals : HasPlaces (map global_name t.module.now.globals) t.globals
-  pub functions : HasPlaces (map function_name t.module.now.functions) t.functions
 
 -- the names are those of the function
 pub record AreNames (s : ScopeInside) : Type 0 where

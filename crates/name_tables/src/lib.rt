@@ -8,7 +8,7 @@ mod tables;
 
 pub use locals::{Local, Scope};
 pub use scalars::{
-    is_int_of, is_integer, is_number_of, is_of, is_ptr, is_register_type, is_scalar,
-    is_void, result_scalar, same_scalar, scalar_of,
+    is_int_of, is_integer, is_number_of, is_of, is_ptr, is_register_type, is_scalar, is_void,
+    result_scalar, same_scalar, scalar_of,
 };
 pub use tables::{Symbol, Tables};

@@ -6,9 +6,9 @@ ghost use Rattle.ir_tables.specs.Names.{HasPlaces};
 ghost use Rattle.name_tables.specs.Kept.{all_seen, all_kept, local_kept, kept_name, kept_local, one_block};
 
 use crate::scalars::{result_scalar, scalar_of};
-use crate::tables::{Tables, place};
+use crate::tables::Tables;
 use ir_core::{Block, Function, Inst, List, Name, OutOfMemory, Param, Scalar};
-use ir_tables::{NameTable, table_of};
+use ir_tables::{NameTable, place, table_of};
 use std::alloc::Global;
 use std::marker::Model;
 
@@ -29,7 +29,7 @@ type Kept<'a> = (&'a [u8], u32, Local);
 pub struct Scope<'a> {
     tables: &'a Tables<'a>,
     function: &'a Function,
-    places: NameTable<'a>,
+    places: NameTable,
     /// In the order of the text.
     names: List<Kept<'a>>,
 }
@@ -113,7 +113,7 @@ fn names_of<'a>(alloc: Global, f: &'a Function) -> Result<List<Kept<'a>>, OutOfM
     Ok(names)
 }
 
-fn places_of<'a>(alloc: Global, names: &[Kept<'a>]) -> Result<NameTable<'a>, OutOfMemory>
+fn places_of(alloc: Global, names: &[Kept]) -> Result<NameTable, OutOfMemory>
     ensures { IfOk result (λ t. HasPlaces (map kept_name (all_seen names.now)) t) }
 {
     let mut slices = List::new(alloc);
@@ -168,7 +168,7 @@ impl<'a> Scope<'a> {
     pub fn local(&self, name: &Name) -> Option<Local>
         ensures { result ≡ option_map local_kept (local_given (local_names self.now.1) name.now) }
     {
-        match place(&self.places, name.as_slice()) {
+        match place(&self.places, name) {
             None => None,
             Some(at) => local_at(self.names.as_slice(), at),
         }

@@ -1,14 +1,12 @@
 //! The types, globals and functions of a module by their names.
-ghost use Rattle.std.specs.Prelude.{◌≡◌, map, IfOk, option_map, option_copied};
+ghost use Rattle.std.specs.Prelude.{◌≡◌, option_map, option_copied};
 ghost use Rattle.std.specs.List.{find};
 ghost use Rattle.std.specs.Str.{bytes_eq};
 ghost use Rattle.ir_core.specs.Given.{type_given, symbol_given, first_symbol};
-ghost use Rattle.ir_tables.specs.Names.{HasPlaces, found_place};
-ghost use Rattle.name_tables.specs.Tables.{type_name, symbol_seen};
+ghost use Rattle.name_tables.specs.Tables.{symbol_seen};
 
-use ir_core::{Function, List, Module, Name, OutOfMemory, Ty, TypeDef};
-use ir_tables::{NameTable, functions_of, globals_of, table_of};
-use std::alloc::Global;
+use ir_core::{Function, Module, Name, Ty, TypeDef};
+use ir_tables::Indexed;
 use std::marker::Model;
 
 /// What `@N` stands for.
@@ -19,13 +17,10 @@ pub enum Symbol<'a> {
     Routine(&'a Function),
 }
 
-/// The names of a module in tables. Contracts see the module.
+/// What the names of a module stand for. Contracts see the module.
 #[derive(Drop)]
 pub struct Tables<'a> {
-    module: &'a Module,
-    types: NameTable<'a>,
-    globals: NameTable<'a>,
-    functions: NameTable<'a>,
+    indexed: &'a Indexed,
 }
 
 impl<'a> Model for Tables<'a> {
@@ -38,28 +33,7 @@ impl<'a> Model for Tables<'a> {
 
     ghost coded = { Prim.hlevel (codes, ty.the_row.coded, init.the_row.coded) };
 
-    ghost view = { λ t. t.module.now };
-
-    ghost use Rattle.name_tables.specs.Tables.{AreTables};
-
-    ghost invariant = { AreTables };
-}
-
-fn types_of<'a>(alloc: Global, types: &'a [TypeDef]) -> Result<NameTable<'a>, OutOfMemory>
-    ensures { IfOk result (λ t. HasPlaces (map type_name types.now) t) }
-{
-    let mut names = List::new(alloc);
-    for def in types {
-        names.push(def.name.as_slice())?;
-    }
-    table_of(alloc, names.as_slice())
-}
-
-/// The place that a table has for a name.
-pub(crate) fn place(table: &NameTable, name: &[u8]) -> Option<usize>
-    ensures { result ≡ found_place table.now name.now }
-{
-    table.get(name).copied()
+    ghost view = { λ t. t.indexed.now };
 }
 
 fn first_symbol<'a>(
@@ -84,30 +58,25 @@ fn first_symbol<'a>(
 
 impl<'a> Tables<'a> {
     /// The names of a module.
-    pub fn of(alloc: Global, m: &'a Module) -> Result<Tables<'a>, OutOfMemory>
-        ensures { IfOk result (λ t. t ≡ m.now) }
+    pub fn of(indexed: &'a Indexed) -> Tables<'a>
+        ensures { result ≡ indexed.now }
     {
-        Ok(Tables {
-            module: m,
-            types: types_of(alloc, m.types.as_slice())?,
-            globals: globals_of(alloc, m.globals.as_slice())?,
-            functions: functions_of(alloc, m.functions.as_slice())?,
-        })
+        Tables { indexed }
     }
 
     /// The module.
     pub fn module(&self) -> &'a Module
         ensures { result.now ≡ self.now }
     {
-        self.module
+        self.indexed.module()
     }
 
     fn type_def(&self, name: &Name) -> Option<&'a TypeDef>
         ensures { option_copied result ≡ find (λ d. bytes_eq d.name name.now) self.now.types }
     {
-        match place(&self.types, name.as_slice()) {
+        match self.indexed.type_place(name) {
             None => None,
-            Some(at) => self.module.types.get(at),
+            Some(at) => self.module().types.get(at),
         }
     }
 
@@ -124,18 +93,18 @@ impl<'a> Tables<'a> {
     fn global(&self, name: &Name) -> Option<&'a ir_core::Global>
         ensures { option_copied result ≡ find (λ g. bytes_eq g.name name.now) self.now.globals }
     {
-        match place(&self.globals, name.as_slice()) {
+        match self.indexed.global(name) {
             None => None,
-            Some(at) => self.module.globals.get(at),
+            Some(at) => self.module().globals.get(at),
         }
     }
 
     fn function(&self, name: &Name) -> Option<&'a Function>
         ensures { option_copied result ≡ find (λ f. bytes_eq f.name name.now) self.now.functions }
     {
-        match place(&self.functions, name.as_slice()) {
+        match self.indexed.function(name) {
             None => None,
-            Some(at) => self.module.functions.get(at),
+            Some(at) => self.module().functions.get(at),
         }
     }
 

@@ -27,7 +27,7 @@ pub fn optimise(alloc: Global, m: &Checked) -> Result<Optimised, OutOfMemory>
     let lines = init_lines(alloc, source)?;
     let out = machine_off(alloc, source)?;
     Ok(Optimised {
-        module: OutModule::new(out),
+        module: OutModule::of(alloc, out)?,
         modes: modes_at(alloc, lines.as_slice())?,
         remarks: remarks_at(alloc, lines.as_slice())?,
     })

@@ -1,5 +1,5 @@
 use Rattle.std.proofs.Common.{sym}
-use Rattle.ir_tables.proofs.Named.{all_locals_more}
+use Rattle.ir_tables.proofs.Naming.{all_locals_more}
 use Rattle.ir_tables.proofs.names.all_locals_of.Goals as goal
 
 pub loop-function-preserved : goal.loop-function-preserved

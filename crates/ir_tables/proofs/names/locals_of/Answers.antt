@@ -11,6 +11,6 @@ returns c =
     let names = c.in_ok-registers.ensures in
     record {
       registers = subst (λ (ns : List (List ℕ)). HasPlaces ns c.in_ok-table_of.field-0) (ap names_seen c.as_slice.ensures ∙ names) c.in_ok-table_of.ensures;
-      blocks = subst (λ (bs : List Block). HasPlaces (map block_name bs) c.in_ok-blocks_of.field-0) c.as_slice-2.ensures c.in_ok-blocks_of.ensures;
+      blocks = subst (λ (bs : List Block). HasPlaces (map block_name bs) c.in_ok-table_of_all.field-0) c.as_slice-2.ensures c.in_ok-table_of_all.ensures;
       count = c.len.ensures ∙ sym (length-map c.in_ok-registers.registers (λ (n : Bor (List ℕ)). n.now)) ∙ ap length names;
     }

@@ -1,7 +1,7 @@
 use Rattle.std.proofs.Common.{◌<◌, ℕ, sym, subst, arith}
 use Rattle.ir_tables.specs.Table.{count, IsSettled}
 use Rattle.ir_tables.specs.declared.table.Table.{Table}
-use Rattle.ir_tables.proofs.Tables.{sound_first, sound_after, whole, count-le}
+use Rattle.ir_tables.proofs.Growth.{sound_first, sound_after, whole, count-le}
 use Rattle.ir_tables.proofs.table.lay_out.Goals as goal
 
 pub loop-at-init : goal.loop-at-init

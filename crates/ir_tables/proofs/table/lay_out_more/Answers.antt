@@ -1,5 +1,5 @@
 use Rattle.std.proofs.Common.{◌≡◌, length, subst, arith}
-use Rattle.ir_tables.proofs.Tables.{GrowsUpTo, sound_after, grows_more, grows_all}
+use Rattle.ir_tables.proofs.Growth.{GrowsUpTo, sound_after, grows_more, grows_all}
 use Rattle.ir_tables.proofs.table.lay_out_more.Goals as goal
 
 pub loop-at-preserved : goal.loop-at-preserved

@@ -1,5 +1,5 @@
 use Rattle.ir_tables.specs.Table.{IsSound}
-use Rattle.ir_tables.proofs.Tables.{GrowsUpTo}
+use Rattle.ir_tables.proofs.Growth.{GrowsUpTo}
 use Rattle.ir_tables.proofs.table.lay_out_more.Given as goal
 
 abbrev pub invariant-loop-at : goal.invariant-loop-at

@@ -1,6 +1,6 @@
 use Rattle.std.proofs.Common.{ap, ◌∙◌, arith, length-append}
 use Rattle.ir_tables.specs.Table.{count}
-use Rattle.ir_tables.proofs.Tables.{count-push}
+use Rattle.ir_tables.proofs.Growth.{count-push}
 use Rattle.ir_tables.proofs.table.nothing_known.Goals as goal
 
 pub loop-preserved : goal.loop-preserved

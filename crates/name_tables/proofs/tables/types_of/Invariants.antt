@@ -1,7 +1,0 @@
-use Rattle.std.proofs.Common.{◌≡◌, take, map}
-use Rattle.ir_tables.specs.Names.{names_seen}
-use Rattle.name_tables.specs.Tables.{type_name}
-use Rattle.name_tables.proofs.tables.types_of.Given as goal
-
-abbrev pub invariant-loop-def : goal.invariant-loop-def
-invariant-loop-def l = names_seen l.names ≡ map type_name (take l.def-index l.types)
