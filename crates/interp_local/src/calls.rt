@@ -35,7 +35,7 @@ fn arguments(kind: &Kind) -> &[Typed]
 }
 
 /// The function at a place, where it has blocks.
-fn body<'a>(m: &Indexed<'a>, place: usize) -> Option<&'a Function>
+fn body<'a>(m: &'a Indexed, place: usize) -> Option<&'a Function>
     ensures { IsBody m.now place (option_copied result) }
 {
     let function = m.module().functions.get(place)?;

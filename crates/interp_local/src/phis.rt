@@ -21,14 +21,14 @@ use mem_model::{Trap, Word};
 use thread_state::ThreadState;
 
 /// The block at a place of a function.
-fn block_at<'a>(m: &Indexed<'a>, function: usize, block: usize) -> Option<&'a Block>
+fn block_at<'a>(m: &'a Indexed, function: usize, block: usize) -> Option<&'a Block>
     ensures { option_copied result ≡ block_in (slice_get m.now.functions function) block }
 {
     m.module().functions.get(function)?.blocks.get(block)
 }
 
 /// The block in which the innermost call stands.
-fn block_here<'a>(m: &Indexed<'a>, s: &ThreadState) -> Option<&'a Block>
+fn block_here<'a>(m: &'a Indexed, s: &ThreadState) -> Option<&'a Block>
     ensures { option_copied result ≡ block_of m.now s.now }
 {
     let frame = s.frames.last()?;
