@@ -1,4 +1,4 @@
-use Rattle.std.proofs.Common.{◌≡◌, Some, Ok, Err, ℤ, [], ◌∷◌, ◌++◌, refl, sym, ap, ◌∙◌, subst, length, rules}
+use Rattle.std.proofs.Common.{◌≡◌, Some, Err, ℤ, [], ◌∷◌, ◌++◌, refl, sym, ◌∙◌, subst, length, rules}
 use Rattle.std.specs.Prelude.{slice_get}
 use Rattle.std.specs.Int.{w64}
 use Rattle.std.specs.Int.RustNames.{FitsSigned}
