@@ -1,6 +1,6 @@
 -- The phis of a block, assigned from words that are gathered first.
-use Rattle.std.proofs.Common.{◌≡◌, ℕ, zero, suc, ◌+◌, ◌<◌, ◌≤◌, List, [], ◌∷◌, ◌++◌, map, take, drop, length, reverse, Bool, true, false, Option, Some, None, Result, Ok, Err, refl, sym, ap, ◌∙◌, subst, arith, slice_get, slice_set, append_assoc, length-append}
-use Rattle.std.specs.Prelude.{IsSome, is_some}
+use Rattle.std.proofs.Common.{◌≡◌, ℕ, zero, suc, ◌+◌, ◌<◌, ◌≤◌, List, [], ◌∷◌, ◌++◌, map, take, drop, length, Bool, true, false, Option, Some, None, Result, Ok, Err, refl, sym, ap, ◌∙◌, subst, arith, slice_get, slice_set, append_assoc, length-append}
+use Rattle.std.specs.Prelude.{is_some}
 use Rattle.std.specs.List.{flat_map}
 use Rattle.std.proofs.lemmas.List.{take_more_set, take-append-drop, length-set}
 use Rattle.ir_core.specs.declared.instructions.Inst.{Inst}
@@ -11,14 +11,13 @@ use Rattle.ir_core.specs.declared.module.Module.{Module}
 use Rattle.ir_core.specs.declared.module.Function.{Function}
 use Rattle.ir_core.specs.declared.module.Block.{Block}
 use Rattle.ir_core.specs.declared.types.Ty.{Ty}
-use Rattle.ir_core.specs.Places.{PhiNode, Place, block_in, inst_in, inst_at, place_in, param_name, result_names, inst_results, block_results, register_names_of, register_names, with_phi, leading_phis, phis_in, phis_at, name_in, label_at, edge_from}
+use Rattle.ir_core.specs.Places.{PhiNode, block_in, param_name, result_names, inst_results, block_results, register_names_of, register_names, with_phi, leading_phis, edge_from}
 use Rattle.mem_model.specs.declared.memory.Word.{Word}
 use Rattle.mem_model.specs.declared.step.Trap.{Trap}
-use Rattle.mem_model.specs.Thread.{Name, Registers, Code, Frame, ThreadState, assigned}
+use Rattle.mem_model.specs.Thread.{Name, Registers, Frame, ThreadState, assigned}
 use Rattle.mem_model.specs.Values.{and_then}
 use Rattle.mem_model.specs.Next.{phi_word, with_phis}
 use Rattle.mem_model.proofs.Runs.{some_injective}
-use Rattle.mem_model.specs.Answers.{only_trap}
 use Rattle.thread_state.specs.declared.state.ThreadState.{ThreadState as ThreadData}
 use Rattle.thread_state.specs.Seen.{thread_seen, IsThread, IsSeen}
 use Rattle.thread_state.specs.Moves.{first_registers, names_of, room_of, with_register, on_first, on_innermost, Moves}

@@ -18,7 +18,7 @@ use Rattle.ir_core.specs.declared.module.Param.{Param}
 use Rattle.ir_core.specs.declared.module.Block.{Block}
 use Rattle.ir_core.specs.EntryPoints.{target_init, target_deinit}
 use Rattle.ir_core.specs.FirstForm.{is_scalar, is_width}
-use Rattle.ir_core.specs.Layout.{Size}
+use Rattle.ir_core.specs.Layout.{Size, Offset}
 use Rattle.mem_model.specs.Memory.{block_limit}
 use Rattle.ir_core.specs.Places.{Name, labels, place_in, function_place}
 use Rattle.mem_model.specs.declared.memory.Ptr.{Ptr}
@@ -28,7 +28,7 @@ use Rattle.mem_model.specs.declared.step.Trap.{Trap}
 use Rattle.mem_model.specs.declared.step.Trap.TheVariants.{Unreachable, TooLarge}
 use Rattle.mem_model.specs.Eval.{Eval, compared}
 use Rattle.mem_model.specs.Thread.{Frame, ThreadState, where_is}
-use Rattle.mem_model.specs.Values.{cell_of, width_of, value_word, is_word_of, of_type, operand, and_then, converted}
+use Rattle.mem_model.specs.Values.{cell_of, width_of, value_word, is_word_of, of_type, operand, and_then, converted, path_of}
 use Rattle.mem_model.specs.Next.{NextStep, Local, Trapped, goes_on, with_found, with_number, with_pointer, with_result, loads, stores, allocates, case_for, to_block, to_label, Callee, CallsInit, CallsDeinit, CallsFunction, CallsOther, with_body, defined_as, defined_at, callee_of, next_call, next_kind}
 use Rattle.interp_local.specs.declared.actions.Action.{Action}
 use Rattle.interp_local.specs.declared.actions.Action.TheVariants.{Loads, Stores, Allocates}
@@ -106,6 +106,11 @@ module _ (m : Module) (t : ThreadState) (f : Frame) (rest : List Frame) (x : Opt
   g_number (Ok (Int n)) go to h = h n
   g_number (Ok (Address p)) go to h = refl
 
+  g_pointer : (r : Result Word Trap) (go : Ptr → Result Word Trap) (to : Ptr → NextStep) → ((p : Ptr) → G (go p) ≡ to p) → G (and_then (and_then r as_pointer) go) ≡ with_found r (λ v. with_pointer v to)
+  g_pointer (Err e) go to h = refl
+  g_pointer (Ok (Int n)) go to h = refl
+  g_pointer (Ok (Address p)) go to h = h p
+
   g_result : {A : Type 0} (o : Option A) (go : A → Result Word Trap) (to : A → NextStep) → ((a : A) → G (go a) ≡ to a) → G (and_then (or_unreachable o) go) ≡ with_result o to
   g_result None go to h = refl
   g_result (Some a) go to h = h a
@@ -162,6 +167,8 @@ action_is m t f rest x (StoreInst value at order align) s =
     d_typed m t f rest x [] value.ty (value_word m f.code.registers value.value) _ _ (λ w typed. d_pointer m t f rest x [] (operand m f.code.registers at.ty at.value) _ _ (λ p. store_by m t f rest x [] value.ty w p (is_scalar_of value.ty w typed)))
 action_is m t f rest x (Rmw op at value order align) s =
     d_pointer m t f rest x [] (operand m f.code.registers at.ty at.value) _ _ (λ p. d_number m t f rest x [] (operand m f.code.registers value.ty value.value) _ _ (λ n. refl))
+action_is m t f rest x (Gep inbounds ty base path) s =
+    g_pointer m t f rest x [] (operand m f.code.registers base.ty base.value) _ _ (λ p. g_then m t f rest x [] (path_of m f.code.registers path) _ _ (λ indices. g_result m t f rest x [] (Offset m.types ty indices) _ _ (λ d. refl)))
 action_is m t f rest x (Fence order) s = refl
 action_is m t f rest x (Call tail_word ret callee operands) s = call_by m t f rest x operands (callee_of m callee) (callee_place m callee)
 action_is m t f rest x (Br to) s = jump_is m t f rest x [] to
@@ -171,7 +178,6 @@ action_is m t f rest x (Ret None) s = refl
 action_is m t f rest x (Ret (Some v)) s = d_then m t f rest x [] (value_word m f.code.registers v.value) _ _ (λ w. refl)
 action_is m t f rest x (Phi ty edges) s = refl
 action_is m t f rest x UnreachableInst s = refl
-action_is m t f rest x (Gep inbounds ty base path) s = absurd s
 
 -- ---- a new block of the stack
 

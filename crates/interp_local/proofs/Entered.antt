@@ -14,12 +14,12 @@ use Rattle.ir_core.specs.declared.module.Function.{Function}
 use Rattle.ir_core.specs.Places.{Name, place_from, place_in, param_name, block_results, register_names_of, register_names}
 use Rattle.mem_model.specs.declared.memory.Word.{Word}
 use Rattle.mem_model.specs.declared.step.Trap.{Trap}
-use Rattle.mem_model.specs.Thread.{Registers, Frame, ThreadState, bound}
+use Rattle.mem_model.specs.Thread.{Frame, ThreadState, bound}
 use Rattle.mem_model.specs.Values.{value_word, and_then, operand_words}
 use Rattle.mem_model.specs.Next.{Local, with_found, with_frames, CallsFunction, defined_at, called, result_of, next_call}
 use Rattle.thread_state.specs.declared.state.Frame.{Frame as FrameData}
 use Rattle.thread_state.specs.declared.state.ThreadState.{ThreadState as ThreadData}
-use Rattle.thread_state.specs.Seen.{value_at, registers_seen, place_seen, back_seen, thread_seen, StandsAtCall, IsThread, IsSeen}
+use Rattle.thread_state.specs.Seen.{value_at, registers_seen, back_seen, thread_seen, StandsAtCall, IsThread, IsSeen}
 use Rattle.thread_state.specs.Moves.{first_registers}
 use Rattle.thread_state.specs.Stored.{entered, HasEntered}
 use Rattle.interp_local.specs.declared.steps.Own.TheVariants.{Went}

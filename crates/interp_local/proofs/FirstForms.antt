@@ -1,24 +1,19 @@
 -- A module of the first form makes no block of a stack, and computes no address.
-use Rattle.std.proofs.Common.{◌≡◌, ℕ, zero, suc, ◌-◌, ◌≤◌, List, [], ◌∷◌, take, drop, length, Bool, true, false, ◌&&◌, Option, Some, None, refl, sym, subst, slice_get, arith}
-use Rattle.std.specs.Prelude.{if◌then◌else◌}
+use Rattle.std.proofs.Common.{◌≡◌, ℕ, zero, suc, ◌-◌, ◌≤◌, List, [], ◌∷◌, take, drop, length, Bool, true, ◌&&◌, Option, Some, None, refl, subst, slice_get, arith}
 use Rattle.std.specs.List.{list_all}
-use Rattle.std.specs.Str.{bytes_eq}
 use Rattle.std.proofs.lemmas.Bool.{and_parts}
-use Rattle.ir_core.specs.declared.instructions.Value.{Value}
-use Rattle.ir_core.specs.declared.instructions.Value.TheVariants.{Int as IntValue, Null, Local as Register, Global as GlobalValue}
 use Rattle.ir_core.specs.declared.instructions.TailWord.TheVariants.{Absent}
 use Rattle.ir_core.specs.declared.instructions.Pred.TheVariants.{Eq}
 use Rattle.ir_core.specs.declared.instructions.Kind.{Kind}
-use Rattle.ir_core.specs.declared.instructions.Kind.TheVariants.{Bin, ICmp, Phi, Load, Store, Call, CondBr, Ret}
+use Rattle.ir_core.specs.declared.instructions.Kind.TheVariants.{Bin, ICmp, Load, Store, Call, CondBr, Ret}
 use Rattle.ir_core.specs.declared.instructions.Inst.{Inst}
 use Rattle.ir_core.specs.declared.module.Module.{Module}
 use Rattle.ir_core.specs.declared.module.Function.{Function}
 use Rattle.ir_core.specs.declared.module.Block.{Block}
 use Rattle.ir_core.specs.EntryPoints.{target_init, target_deinit}
-use Rattle.ir_core.specs.FirstForm.{is_function, is_int_of, is_void, empty, no_result, is_init_operands, is_init_kind, is_test_kind, is_branch_kind, is_branch, by_test, by_init, is_entry, is_user_kind, is_user_inst, is_deinit_operands, is_deinit_kind, is_deinit, is_return_kind, is_return, is_end, user_code, is_user, is_exit, are_kernel_blocks, is_kernel, is_well_formed, is_bare_declaration, declares_init, declares_deinit, are_functions, only_functions, HasOutForm}
-use Rattle.ir_core.specs.Places.{block_in, inst_in, function_place}
+use Rattle.ir_core.specs.FirstForm.{empty, no_result, is_init_kind, is_test_kind, is_branch_kind, is_branch, by_test, by_init, is_entry, is_user_kind, is_user_inst, is_deinit_kind, is_deinit, is_return_kind, is_return, is_end, user_code, is_user, is_exit, are_kernel_blocks, is_kernel, is_well_formed, is_bare_declaration, declares_init, declares_deinit, are_functions, only_functions, HasOutForm}
+use Rattle.ir_core.specs.Places.{block_in, inst_in}
 use Rattle.mem_model.specs.Thread.{Name}
-use Rattle.mem_model.specs.Next.{Callee, CallsInit, CallsDeinit, defined_at, callee_of}
 use Rattle.mem_model.proofs.Runs.{some_injective}
 use Rattle.interp_local.specs.Operands.{AreFew}
 use Rattle.interp_local.specs.Steps.{IsSized, AreSized}

@@ -1,11 +1,11 @@
 -- A branch, once the words of the target's phis are gathered and assigned.
-use Rattle.std.proofs.Common.{◌≡◌, ℕ, ◌≤◌, List, [], ◌∷◌, ◌++◌, length, reverse, Option, Some, None, Result, Ok, Err, refl, sym, ap, ◌∙◌, subst, arith, slice_get}
+use Rattle.std.proofs.Common.{◌≡◌, ℕ, ◌≤◌, List, [], ◌∷◌, ◌++◌, length, reverse, Some, Result, Ok, Err, refl, sym, ap, ◌∙◌, subst, arith, slice_get}
 use Rattle.ir_core.specs.declared.module.Module.{Module}
 use Rattle.ir_core.specs.declared.module.Block.{Block}
 use Rattle.ir_core.specs.Places.{PhiNode, block_in, register_names, leading_phis, phis_in, phis_at, name_in, label_at}
 use Rattle.mem_model.specs.declared.memory.Word.{Word}
 use Rattle.mem_model.specs.declared.step.Trap.{Trap}
-use Rattle.mem_model.specs.Thread.{Name, Registers, Frame, ThreadState}
+use Rattle.mem_model.specs.Thread.{Name, Frame, ThreadState}
 use Rattle.mem_model.specs.Next.{with_found, with_frames, with_phis, enters, to_block}
 use Rattle.mem_model.specs.Answers.{only_trap}
 use Rattle.thread_state.specs.declared.state.Frame.{Frame as FrameData}

@@ -1,5 +1,6 @@
 pub mod Branches
 pub mod Decides
+pub mod Elements
 pub mod Entered
 pub mod FirstForms
 pub mod Jumps

@@ -4,7 +4,7 @@ use Rattle.std.proofs.lemmas.Bool.Decides.{nat_tests}
 use Rattle.ir_core.specs.declared.module.Module.{Module}
 use Rattle.mem_model.specs.declared.memory.Byte.{Byte}
 use Rattle.mem_model.specs.declared.step.Trap.{Trap}
-use Rattle.mem_model.specs.Thread.{Code, Frame, ThreadState, same_spot, or_else, find_block, find_in, put_in}
+use Rattle.mem_model.specs.Thread.{Code, Frame, same_spot, or_else, find_block, find_in, put_in}
 use Rattle.mem_model.specs.Next.{NextStep, Local, with_found, with_frames, code_past}
 use Rattle.thread_state.specs.declared.state.Frame.{Frame as FrameData}
 use Rattle.thread_state.specs.declared.state.StackBlock.{StackBlock}

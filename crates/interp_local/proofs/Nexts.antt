@@ -146,7 +146,7 @@ p_kind m k r init (Ret None) = λ t. absurd t
 p_kind m k r init (Ret (Some v)) = p_then ⊥ (value_word m r v.value) (λ w. Ok (Returns (Some w))) (λ w t. absurd t)
 p_kind m k r init (Phi ty edges) = tt
 p_kind m k r init UnreachableInst = tt
-p_kind m k r init (Gep inbounds ty base path) = tt
+p_kind m k r init (Gep inbounds ty base path) = p_gives ⊥ _
 
 takes : (m : Module) (k : ℕ) (r : Registers) (init : ℕ) (kind : Kind) (action : Action) → Ok action ≡ action_of m k r init kind → TakesRoom action → TakesMemory m kind
 takes m k r init kind action e = subst (OkTakes (TakesMemory m kind)) (sym e) (p_kind m k r init kind)

@@ -5,7 +5,7 @@ use Rattle.ir_core.specs.declared.instructions.Typed.{Typed}
 use Rattle.ir_core.specs.declared.instructions.Case.{Case}
 use Rattle.ir_core.specs.declared.instructions.RmwOp.{RmwOp}
 use Rattle.ir_core.specs.declared.instructions.Kind.{Kind}
-use Rattle.ir_core.specs.declared.instructions.Kind.TheVariants.{Bin, ICmp, Cast, Select, Alloca, Load as LoadInst, Store as StoreInst, Rmw, Fence, Call, Br, CondBr, Switch, Ret}
+use Rattle.ir_core.specs.declared.instructions.Kind.TheVariants.{Bin, ICmp, Cast, Select, Alloca, Load as LoadInst, Store as StoreInst, Rmw, Gep, Fence, Call, Br, CondBr, Switch, Ret}
 use Rattle.ir_core.specs.declared.module.Module.{Module}
 use Rattle.ir_core.specs.FirstForm.{is_width}
 use Rattle.ir_core.specs.Places.{labels, place_in}
@@ -24,7 +24,7 @@ use Rattle.thread_state.specs.declared.state.ThreadState.{ThreadState as ThreadD
 use Rattle.interp_local.specs.declared.actions.Change.{Change}
 use Rattle.interp_local.specs.declared.actions.Action.{Action}
 use Rattle.interp_local.specs.declared.actions.Action.TheVariants.{Gives, Passes, Loads, Stores, Updates, Allocates, Deinit, Calls, Jumps, Returns}
-use Rattle.interp_local.specs.Operands.{number, pointer, cell, or_unreachable, binary, comparison, conversion, selection}
+use Rattle.interp_local.specs.Operands.{number, pointer, cell, or_unreachable, binary, comparison, conversion, selection, element}
 
 abbrev pub first_function : List FrameData → ℕ
 first_function [] = 0
@@ -86,6 +86,7 @@ action_of m k r init (Select c a b) = gives (selection m r c a b)
 action_of m k r init (LoadInst ty at order align) = load_action m r ty at
 action_of m k r init (StoreInst value at order align) = store_action m r value at
 action_of m k r init (Rmw op at value order align) = update_action m r op at value
+action_of m k r init (Gep inbounds ty base path) = gives (element m r ty base path)
 action_of m k r init (Fence order) = Ok Passes
 action_of m k r init (Call tail_word ret callee operands) = call_action init (callee_of m callee)
 action_of m k r init (Br to) = jump m k to

@@ -1,4 +1,5 @@
 pub mod Actions
+pub mod Addresses
 pub mod Calls
 pub mod Operands
 pub mod Phis

@@ -1,5 +1,5 @@
 -- Operands of the innermost call as words, numbers and pointers, and the words that plain instructions give.
-use Rattle.std.specs.Prelude.{ℕ, ◌≤◌, ◌^◌, length, Option, Some, None, Result, Ok, Err, if◌then◌else◌, ◌==◌}
+use Rattle.std.specs.Prelude.{ℕ, ◌≤◌, ◌^◌, length, List, Option, Some, None, Result, Ok, Err, if◌then◌else◌, ◌==◌}
 use Rattle.ir_core.specs.declared.types.Ty.{Ty}
 use Rattle.ir_core.specs.declared.instructions.Value.{Value}
 use Rattle.ir_core.specs.declared.instructions.Typed.{Typed}
@@ -9,6 +9,7 @@ use Rattle.ir_core.specs.declared.instructions.Pred.{Pred}
 use Rattle.ir_core.specs.declared.instructions.CastOp.{CastOp}
 use Rattle.ir_core.specs.declared.module.Module.{Module}
 use Rattle.ir_core.specs.FirstForm.{is_scalar}
+use Rattle.ir_core.specs.Layout.{Offset}
 use Rattle.mem_model.specs.declared.memory.Ptr.{Ptr}
 use Rattle.mem_model.specs.declared.memory.Cell.{Cell}
 use Rattle.mem_model.specs.declared.memory.Word.{Word}
@@ -17,7 +18,7 @@ use Rattle.mem_model.specs.declared.step.Trap.{Trap}
 use Rattle.mem_model.specs.declared.step.Trap.TheVariants.{Unreachable}
 use Rattle.mem_model.specs.Eval.{Eval, compared}
 use Rattle.mem_model.specs.Thread.{Registers}
-use Rattle.mem_model.specs.Values.{cell_of, width_of, operand, and_then, converted}
+use Rattle.mem_model.specs.Values.{cell_of, width_of, operand, and_then, converted, path_of, moved}
 use Rattle.thread_state.specs.declared.state.ThreadState.{ThreadState as ThreadData}
 use Rattle.thread_state.specs.Seen.{thread_seen}
 use Rattle.thread_state.specs.Moves.{first_registers}
@@ -66,3 +67,8 @@ conversion m r op from to = and_then (operand m r from.ty from.value) (λ v. and
 abbrev pub selection : Module → Registers → Typed → Typed → Typed → Result Word Trap
 selection m r c a b =
     and_then (number m r c.ty c.value) (λ n. and_then (operand m r a.ty a.value) (λ then_word. and_then (operand m r b.ty b.value) (λ else_word. Ok (if n == 0 then else_word else then_word))))
+
+-- the address that a getelementptr gives
+abbrev pub element : Module → Registers → Ty → Typed → List Typed → Result Word Trap
+element m r ty base path =
+    and_then (pointer m r base.ty base.value) (λ p. and_then (path_of m r path) (λ indices. and_then (or_unreachable (Offset m.types ty indices)) (λ offset. Ok (Address (moved p offset)))))

@@ -90,10 +90,10 @@ IsNext m old new result = IsTried (StandsAtTaking m (thread_seen m old)) m old n
 
 -- ---- modules whose types have sizes
 
--- the type of a new block of the stack has a size; no getelementptr
+-- the type of a new block of the stack has a size, and so has the one that a getelementptr goes through
 abbrev pub IsSized : Module → Kind → Type 0
 IsSized m (Alloca ty align) = WellFormed m.types ty
-IsSized m (Gep inbounds ty base path) = ⊥
+IsSized m (Gep inbounds ty base path) = WellFormed m.types ty
 IsSized m _ = Unit {0}
 
 -- the types of which instructions need the size have one, as in every checked module

@@ -8,6 +8,7 @@ ghost use Rattle.interp_local.specs.Operands.{AreFew, registers};
 ghost use Rattle.interp_local.specs.Steps.{IsSized};
 ghost use Rattle.interp_local.specs.Actions.{IsAction, gives, action_of, call_action, jump, function_of, load_action, store_action, update_action, block_action, branch_action, switch_action, return_action};
 
+use crate::addresses::element;
 use crate::operands::{
     binary, cell, comparison, conversion, number, operand, pointer, selection, value_word, width_of,
 };
@@ -267,6 +268,7 @@ pub fn decide(m: &Indexed, s: &ThreadState, kind: &Kind) -> Result<Action, Trap>
         Kind::Load { ty, at, .. } => load(m, s, ty, at),
         Kind::Store { value, at, .. } => store(m, s, value, at),
         Kind::Rmw { op, at, value, .. } => update(m, s, *op, at, value),
+        Kind::Gep { ty, base, path, .. } => give(element(m, s, ty, base, path.as_slice())),
         Kind::Fence { .. } => Ok(Action::Passes),
         Kind::Call { callee, .. } => call(m, s, callee),
         Kind::Br { to } => jump_to(m, s, to),

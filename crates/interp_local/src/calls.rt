@@ -17,7 +17,7 @@ ghost use Rattle.interp_local.specs.Steps.{IsTried, Knows, inst_of};
 ghost use Rattle.interp_local.specs.Runs.{Tells};
 
 use crate::operands::value_word;
-use crate::steps::Own;
+use crate::steps::{Own, Stepped};
 use ir_core::{Function, Inst, Kind, List, Or, OutOfMemory, Typed};
 use ir_tables::Indexed;
 use mem_model::{BlockName, Ptr, Trap, Word};
@@ -35,7 +35,7 @@ fn arguments(kind: &Kind) -> &[Typed]
 }
 
 /// The function at a place, where it has blocks.
-fn body<'a>(m: &Indexed<'a>, place: usize) -> Option<&'a Function>
+fn body<'a>(m: &'a Indexed, place: usize) -> Option<&'a Function>
     ensures { IsBody m.now place (option_copied result) }
 {
     let function = m.module().functions.get(place)?;
@@ -122,12 +122,7 @@ pub(crate) fn call(
 }
 
 /// Whether a call of the function at a place goes, where there is memory.
-pub(crate) fn look_call(
-    m: &Indexed,
-    s: &ThreadState,
-    inst: &Inst,
-    place: usize,
-) -> Result<Own, Trap>
+pub(crate) fn look_call(m: &Indexed, s: &ThreadState, inst: &Inst, place: usize) -> Stepped
     requires { AreFew m.now }
     ensures { (f : Frame) (rest : Listed Frame) → (thread_seen m.now s.now).frames ≡ f ∷ rest → Tells (next_call m.now (thread_seen m.now s.now) f rest inst.now.result (spec.arguments inst.now.kind) (defined_at m.now (Some place))) result }
 {

@@ -1,10 +1,11 @@
 //! The steps that a thread makes by itself, as the definition of the next step has them.
 //!
-//! `operands` reads operands, `actions` tells what an instruction does, `steps` does it, `phis` what a branch
+//! `operands` reads operands and `addresses` reckons with them, `actions` tells what an instruction does, `steps` does it, `phis` what a branch
 //! does and `calls` what takes memory, and `run` makes one step after another.
 #![tactic(auto)]
 
 mod actions;
+mod addresses;
 mod calls;
 mod first_form;
 mod operands;

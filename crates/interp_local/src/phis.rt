@@ -14,21 +14,21 @@ ghost use Rattle.interp_local.specs.Runs.{Tells};
 
 use crate::actions::function;
 use crate::operands::{register, value_word};
-use crate::steps::Own;
+use crate::steps::{Own, Stepped};
 use ir_core::{Block, Edge, Inst, Kind, Name, Value};
 use ir_tables::Indexed;
 use mem_model::{Trap, Word};
 use thread_state::ThreadState;
 
 /// The block at a place of a function.
-fn block_at<'a>(m: &Indexed<'a>, function: usize, block: usize) -> Option<&'a Block>
+fn block_at<'a>(m: &'a Indexed, function: usize, block: usize) -> Option<&'a Block>
     ensures { option_copied result ≡ block_in (slice_get m.now.functions function) block }
 {
     m.module().functions.get(function)?.blocks.get(block)
 }
 
 /// The block in which the innermost call stands.
-fn block_here<'a>(m: &Indexed<'a>, s: &ThreadState) -> Option<&'a Block>
+fn block_here<'a>(m: &'a Indexed, s: &ThreadState) -> Option<&'a Block>
     ensures { option_copied result ≡ block_of m.now s.now }
 {
     let frame = s.frames.last()?;
@@ -108,7 +108,7 @@ fn assign_phis(m: &Indexed, s: &mut ThreadState, insts: &[Inst]) -> usize
 }
 
 /// Goes to a block of the same function, with its phis assigned.
-pub(crate) fn jump(m: &Indexed, s: &mut ThreadState, block: usize) -> Result<Own, Trap>
+pub(crate) fn jump(m: &Indexed, s: &mut ThreadState, block: usize) -> Stepped
     requires few { AreFew m.now }
     requires thread { IsThread m.now s.old }
     requires stands { IsSome (inst_of m.now s.old) }
@@ -143,7 +143,7 @@ fn look_phis(m: &Indexed, s: &ThreadState, from: &Name, insts: &[Inst]) -> Resul
 }
 
 /// Whether a branch to a block of the same function goes.
-pub(crate) fn look_jump(m: &Indexed, s: &ThreadState, block: usize) -> Result<Own, Trap>
+pub(crate) fn look_jump(m: &Indexed, s: &ThreadState, block: usize) -> Stepped
     requires few { AreFew m.now }
     requires stands { IsSome (inst_of m.now s.now) }
     ensures { (f : Frame) (rest : List Frame) → (thread_seen m.now s.now).frames ≡ f ∷ rest → Tells (spec.to_block m.now (thread_seen m.now s.now) f rest (Some block)) result }

@@ -16,7 +16,7 @@ ghost use Rattle.interp_local.specs.Runs.{Tells, IsRan, HasRunShort, is_went, pa
 use crate::actions::{Action, Change, decide};
 use crate::calls::look_call;
 use crate::phis::look_jump;
-use crate::steps::{Own, Part, Spot, inst_at, next, part_of};
+use crate::steps::{Own, Part, Spot, Stepped, inst_at, next, part_of};
 use ir_core::{Inst, Or, OutOfMemory};
 use ir_tables::Indexed;
 use mem_model::{Cell, Ptr, Trap, Word};
@@ -44,7 +44,7 @@ pub struct Ran {
 }
 
 /// Whether a load from a block of a stack goes.
-fn look_load_own(s: &ThreadState, spot: Spot, cell: Cell) -> Result<Own, Trap>
+fn look_load_own(s: &ThreadState, spot: Spot, cell: Cell) -> Stepped
     requires { IsCell cell }
     ensures { (m : Module) (x : Option Name) (f : Frame) (rest : List Frame) → IsThread m s.now → (thread_seen m s.now).frames ≡ f ∷ rest → Tells (loads (thread_seen m s.now) f rest x cell (InStack (spot.thread, spot.number) spot.offset)) result }
 {
@@ -56,7 +56,7 @@ fn look_load_own(s: &ThreadState, spot: Spot, cell: Cell) -> Result<Own, Trap>
 }
 
 /// Whether a load goes.
-fn look_load(s: &ThreadState, at: Ptr, cell: Cell) -> Result<Own, Trap>
+fn look_load(s: &ThreadState, at: Ptr, cell: Cell) -> Stepped
     requires { IsCell cell }
     ensures { (m : Module) (x : Option Name) (f : Frame) (rest : List Frame) → IsThread m s.now → (thread_seen m s.now).frames ≡ f ∷ rest → Tells (loads (thread_seen m s.now) f rest x cell (where_is at)) result }
 {
@@ -67,7 +67,7 @@ fn look_load(s: &ThreadState, at: Ptr, cell: Cell) -> Result<Own, Trap>
 }
 
 /// Whether a store in a block of a stack goes.
-fn look_store_own(s: &ThreadState, spot: Spot, cell: Cell) -> Result<Own, Trap>
+fn look_store_own(s: &ThreadState, spot: Spot, cell: Cell) -> Stepped
     ensures { (m : Module) (word : SpecWord) (f : Frame) (rest : List Frame) → IsThread m s.now → (thread_seen m s.now).frames ≡ f ∷ rest → Tells (stores (thread_seen m s.now) f rest cell word (InStack (spot.thread, spot.number) spot.offset)) result }
 {
     if spot.thread != s.own {
@@ -78,7 +78,7 @@ fn look_store_own(s: &ThreadState, spot: Spot, cell: Cell) -> Result<Own, Trap>
 }
 
 /// Whether a store goes.
-fn look_store(s: &ThreadState, at: Ptr, cell: Cell) -> Result<Own, Trap>
+fn look_store(s: &ThreadState, at: Ptr, cell: Cell) -> Stepped
     ensures { (m : Module) (word : SpecWord) (f : Frame) (rest : List Frame) → IsThread m s.now → (thread_seen m s.now).frames ≡ f ∷ rest → Tells (stores (thread_seen m s.now) f rest cell word (where_is at)) result }
 {
     match part_of(at) {
@@ -88,7 +88,7 @@ fn look_store(s: &ThreadState, at: Ptr, cell: Cell) -> Result<Own, Trap>
 }
 
 /// Whether an atomic change in a block of a stack goes.
-fn look_update_own(s: &ThreadState, spot: Spot, change: Change) -> Result<Own, Trap>
+fn look_update_own(s: &ThreadState, spot: Spot, change: Change) -> Stepped
     requires { IsChange change }
     ensures { (m : Module) (x : Option Name) (f : Frame) (rest : List Frame) → IsThread m s.now → (thread_seen m s.now).frames ≡ f ∷ rest → Tells (updates (thread_seen m s.now) f rest x change.width change.op change.number (InStack (spot.thread, spot.number) spot.offset)) result }
 {
@@ -104,7 +104,7 @@ fn look_update_own(s: &ThreadState, spot: Spot, change: Change) -> Result<Own, T
 }
 
 /// Whether an atomic change goes.
-fn look_update(s: &ThreadState, at: Ptr, change: Change) -> Result<Own, Trap>
+fn look_update(s: &ThreadState, at: Ptr, change: Change) -> Stepped
     requires { IsChange change }
     ensures { (m : Module) (x : Option Name) (f : Frame) (rest : List Frame) → IsThread m s.now → (thread_seen m s.now).frames ≡ f ∷ rest → Tells (updates (thread_seen m s.now) f rest x change.width change.op change.number (where_is at)) result }
 {
@@ -126,7 +126,7 @@ fn look_return(s: &ThreadState) -> Own
 }
 
 /// What an action would be, where there is memory.
-fn look_at(m: &Indexed, s: &ThreadState, inst: &Inst, action: Action) -> Result<Own, Trap>
+fn look_at(m: &Indexed, s: &ThreadState, inst: &Inst, action: Action) -> Stepped
     requires thread { IsThread m.now s.now }
     requires few { AreFew m.now }
     requires stands { inst_of m.now s.now ≡ Some inst.now }

@@ -34,6 +34,9 @@ pub enum Own {
     Done,
 }
 
+/// What a thread has done by itself, or the trap of its step.
+pub(crate) type Stepped = Result<Own, Trap>;
+
 /// The instruction at which the innermost call stands.
 pub fn inst_at<'a>(m: &'a Indexed, s: &ThreadState) -> Option<&'a Inst>
     ensures value { option_copied result ≡ inst_of m.now s.now }
@@ -94,12 +97,7 @@ pub(crate) fn part_of(at: Ptr) -> Part
 }
 
 /// Loads from a block of a stack.
-fn load_own(
-    s: &mut ThreadState,
-    register: Option<usize>,
-    spot: Spot,
-    cell: Cell,
-) -> Result<Own, Trap>
+fn load_own(s: &mut ThreadState, register: Option<usize>, spot: Spot, cell: Cell) -> Stepped
     requires cell { IsCell cell }
     requires within { index_of s.old + 1 < 2 ^ 64 }
     ensures { (m : Module) (x : Option Name) (f : Frame) (rest : List Frame) → Knows m s.old x register f rest → IsOwn m s.old s.new (loads (thread_seen m s.old) f rest x cell (InStack (spot.thread, spot.number) spot.offset)) result }
@@ -113,7 +111,7 @@ fn load_own(
 }
 
 /// Loads from where a pointer points to: by itself from a stack.
-fn load(s: &mut ThreadState, register: Option<usize>, at: Ptr, cell: Cell) -> Result<Own, Trap>
+fn load(s: &mut ThreadState, register: Option<usize>, at: Ptr, cell: Cell) -> Stepped
     requires cell { IsCell cell }
     requires within { index_of s.old + 1 < 2 ^ 64 }
     ensures { (m : Module) (x : Option Name) (f : Frame) (rest : List Frame) → Knows m s.old x register f rest → IsOwn m s.old s.new (loads (thread_seen m s.old) f rest x cell (where_is at)) result }
@@ -125,7 +123,7 @@ fn load(s: &mut ThreadState, register: Option<usize>, at: Ptr, cell: Cell) -> Re
 }
 
 /// Stores in a block of a stack.
-fn store_own(s: &mut ThreadState, spot: Spot, cell: Cell, word: Word) -> Result<Own, Trap>
+fn store_own(s: &mut ThreadState, spot: Spot, cell: Cell, word: Word) -> Stepped
     requires cell { IsCell cell }
     requires word { IsOf cell word }
     requires within { index_of s.old + 1 < 2 ^ 64 }
@@ -140,7 +138,7 @@ fn store_own(s: &mut ThreadState, spot: Spot, cell: Cell, word: Word) -> Result<
 }
 
 /// Stores where a pointer points to: by itself in a stack.
-fn store(s: &mut ThreadState, at: Ptr, cell: Cell, word: Word) -> Result<Own, Trap>
+fn store(s: &mut ThreadState, at: Ptr, cell: Cell, word: Word) -> Stepped
     requires cell { IsCell cell }
     requires word { IsOf cell word }
     requires within { index_of s.old + 1 < 2 ^ 64 }
@@ -153,12 +151,7 @@ fn store(s: &mut ThreadState, at: Ptr, cell: Cell, word: Word) -> Result<Own, Tr
 }
 
 /// Changes a number in a block of a stack atomically.
-fn update_own(
-    s: &mut ThreadState,
-    register: Option<usize>,
-    spot: Spot,
-    change: Change,
-) -> Result<Own, Trap>
+fn update_own(s: &mut ThreadState, register: Option<usize>, spot: Spot, change: Change) -> Stepped
     requires change { IsChange change }
     requires within { index_of s.old + 1 < 2 ^ 64 }
     ensures { (m : Module) (x : Option Name) (f : Frame) (rest : List Frame) → Knows m s.old x register f rest → IsOwn m s.old s.new (updates (thread_seen m s.old) f rest x change.width change.op change.number (InStack (spot.thread, spot.number) spot.offset)) result }
@@ -177,12 +170,7 @@ fn update_own(
 }
 
 /// Changes a number where a pointer points to: by itself in a stack.
-fn update(
-    s: &mut ThreadState,
-    register: Option<usize>,
-    at: Ptr,
-    change: Change,
-) -> Result<Own, Trap>
+fn update(s: &mut ThreadState, register: Option<usize>, at: Ptr, change: Change) -> Stepped
     requires change { IsChange change }
     requires within { index_of s.old + 1 < 2 ^ 64 }
     ensures { (m : Module) (x : Option Name) (f : Frame) (rest : List Frame) → Knows m s.old x register f rest → IsOwn m s.old s.new (updates (thread_seen m s.old) f rest x change.width change.op change.number (where_is at)) result }
@@ -224,12 +212,7 @@ fn return_to(m: &Indexed, s: &mut ThreadState, word: Option<Word>) -> Own
 }
 
 /// Does what an instruction that takes no memory does, unless it is an event.
-fn perform_own(
-    m: &Indexed,
-    s: &mut ThreadState,
-    register: Option<usize>,
-    action: Action,
-) -> Result<Own, Trap>
+fn perform_own(m: &Indexed, s: &mut ThreadState, register: Option<usize>, action: Action) -> Stepped
     requires thread { IsThread m.now s.old }
     requires few { AreFew m.now }
     requires action { IsAction action }

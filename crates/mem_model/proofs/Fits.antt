@@ -1,5 +1,5 @@
 -- A word that is loaded is of its cell.
-use Rattle.std.proofs.Common.{ℕ, ◌^◌, ◌%◌, ◌<◌, ℤ, List, take, drop, length, Bool, true, false, Option, Some, None, Result, Ok, Err, arith}
+use Rattle.std.proofs.Common.{ℕ, ℤ, List, take, drop, length, Bool, true, false, Option, Some, None, Result, Ok, Err}
 use Rattle.std.specs.Prelude.{IfOk, if◌then◌else◌}
 use Rattle.std.specs.FinMap as fin
 use Rattle.std.proofs.Math.Nat.{mod-lt}

@@ -3,8 +3,7 @@ use Rattle.std.proofs.lemmas.Option.{slice_get_within}
 use Rattle.mem_model.specs.Next.{Next, result_of, line_of, frames_line}
 use Rattle.team_model.specs.declared.Stand.TheVariants.{Runs}
 use Rattle.thread_state.specs.Seen.{thread_seen}
-use Rattle.interp_local.specs.Operands.{registers}
-use Rattle.interp_local.specs.Actions.{function_of, arguments}
+use Rattle.interp_local.specs.Actions.{arguments}
 use Rattle.interp_local.proofs.Nexts.{at_inst, served, next_decided}
 use Rattle.interp.specs.Events.{shared_seen}
 use Rattle.interp.proofs.Happens.{pending_of, no_trap, team_step}

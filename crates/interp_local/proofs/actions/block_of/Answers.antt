@@ -1,4 +1,4 @@
-use Rattle.std.proofs.Common.{Err, sym, arith, rules}
+use Rattle.std.proofs.Common.{sym, rules}
 use Rattle.ir_core.specs.Layout.{Size}
 use Rattle.interp_local.proofs.Decides.{block_large, block_small, block_goes, within_limit}
 use Rattle.interp_local.proofs.actions.block_of.Goals as goal

@@ -1,14 +1,12 @@
-use Rattle.std.proofs.Common.{◌≡◌, ℕ, List, length, Option, Some, None, Ok, Err, refl, sym, ap, ◌∙◌, subst, rules, replicate}
-use Rattle.std.specs.Prelude.{slice_get}
+use Rattle.std.proofs.Common.{◌≡◌, length, Some, None, Err, sym, ap, ◌∙◌, subst, rules, replicate}
 use Rattle.ir_core.specs.declared.answers.Or.TheVariants.{Memory as WantOfMemory}
 use Rattle.ir_core.specs.Places.{register_names}
-use Rattle.mem_model.specs.declared.memory.Word.{Word}
 use Rattle.mem_model.specs.Values.{operand_words}
-use Rattle.mem_model.specs.Next.{CallsFunction, defined_at, next_call}
+use Rattle.mem_model.specs.Next.{defined_at, next_call}
 use Rattle.thread_state.specs.Seen.{thread_seen}
 use Rattle.interp_local.specs.Operands.{registers}
 use Rattle.interp_local.specs.Actions.{arguments}
-use Rattle.interp_local.specs.Calls.{put_words, IsBody, AreBound}
+use Rattle.interp_local.specs.Calls.{put_words, AreBound}
 use Rattle.interp_local.specs.Steps.{IsTried}
 use Rattle.interp_local.proofs.Entered.{ok_is, values_size, entered_ok, entered_err, stands_at, call_goes, bound_ok}
 use Rattle.interp_local.proofs.calls.call.Goals as goal

@@ -1,7 +1,6 @@
-use Rattle.std.proofs.Common.{subst, ◌≡◌, Some, None, Ok, Err, refl, sym, ap, ◌∙◌, length, drop, rules, ◌+◌}
+use Rattle.std.proofs.Common.{subst, ◌≡◌, Some, Ok, refl, sym, ap, ◌∙◌, length, rules, ◌+◌}
 use Rattle.std.specs.Prelude.{slice_get}
 use Rattle.std.proofs.lemmas.Option.{slice_get_read}
-use Rattle.std.proofs.lemmas.List.{take_all}
 use Rattle.ir_core.specs.Places.{edge_from}
 use Rattle.mem_model.specs.Next.{phi_word}
 use Rattle.interp_local.specs.Operands.{registers}

@@ -1,4 +1,4 @@
-use Rattle.std.proofs.Common.{◌≡◌, ◌≤◌, length, Some, Ok, Err, sym, ap, ◌∙◌, subst, rules, slice_get}
+use Rattle.std.proofs.Common.{◌≡◌, ◌≤◌, length, Some, sym, ap, ◌∙◌, subst, rules, slice_get}
 use Rattle.ir_core.specs.Places.{block_in, leading_phis}
 use Rattle.thread_state.specs.Moves.{names_of, room_of, Moves}
 use Rattle.interp_local.specs.Actions.{function_of}

@@ -1,4 +1,4 @@
-use Rattle.std.proofs.Common.{◌≡◌, Some, Ok, Err, sym, ap, ◌∙◌, subst, rules, slice_get}
+use Rattle.std.proofs.Common.{◌≡◌, Some, sym, ap, ◌∙◌, rules, slice_get}
 use Rattle.ir_core.specs.Places.{block_in, leading_phis}
 use Rattle.mem_model.specs.Answers.{only_trap}
 use Rattle.interp_local.specs.Operands.{registers}

@@ -1,4 +1,4 @@
-use Rattle.std.proofs.Common.{rules, true, false, ◌≡◌, ◌<◌, ◌≤◌, ◌+◌, arith}
+use Rattle.std.proofs.Common.{rules, true, false, ◌≡◌}
 use Rattle.mem_model.specs.Next.{Next}
 use Rattle.thread_state.specs.Seen.{thread_seen}
 use Rattle.interp_local.specs.Runs.{IsRan, HasRunShort, is_went}

@@ -1,6 +1,4 @@
 use Rattle.std.proofs.Common.{Ok, Err, sym, ◌∙◌, subst, rules}
-use Rattle.interp_local.specs.Operands.{registers}
-use Rattle.interp_local.specs.Actions.{function_of, arguments}
 use Rattle.interp_local.specs.Runs.{Tells}
 use Rattle.interp_local.proofs.Looks.{told_trap}
 use Rattle.interp_local.proofs.Nexts.{not_empty, at, served, next_decided}

@@ -1,8 +1,7 @@
-use Rattle.std.proofs.Common.{Ok, Err, sym, ◌∙◌, subst, rules, refl}
+use Rattle.std.proofs.Common.{Ok, Err, sym, ◌∙◌}
 use Rattle.mem_model.specs.Next.{Next}
 use Rattle.thread_state.specs.Seen.{thread_seen}
-use Rattle.interp_local.specs.Operands.{registers}
-use Rattle.interp_local.specs.Actions.{function_of, arguments, TakesRoom}
+use Rattle.interp_local.specs.Actions.{TakesRoom}
 use Rattle.interp_local.specs.Steps.{StandsAtTaking}
 use Rattle.interp_local.proofs.Nexts.{not_empty, at, served, next_decided, refused_trap, stands_taking, tried_as}
 use Rattle.interp_local.proofs.steps.next.Goals as goal

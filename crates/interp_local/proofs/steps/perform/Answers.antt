@@ -1,6 +1,5 @@
 use Rattle.std.proofs.Common.{sym, subst}
 use Rattle.thread_state.specs.Seen.{thread_seen}
-use Rattle.mem_model.specs.Next.{allocates}
 use Rattle.interp_local.specs.Actions.{arguments, acted, TakesRoom}
 use Rattle.interp_local.specs.Steps.{IsTried}
 use Rattle.interp_local.proofs.steps.perform.Goals as goal
