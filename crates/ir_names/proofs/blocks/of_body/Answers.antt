@@ -1,4 +1,4 @@
-use Rattle.std.proofs.Common.{[], List, Option, map, ap, sym, ◌∙◌}
+use Rattle.std.proofs.Common.{[], List, map, ap, sym, ◌∙◌}
 use Rattle.std.specs.List.{flat_map}
 use Rattle.ir_core.specs.declared.module.Module.{Module}
 use Rattle.ir_core.specs.declared.module.Function.{Function}
