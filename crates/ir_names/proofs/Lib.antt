@@ -1,2 +1,5 @@
 pub mod KeptLaws
 pub mod ListLaws
+pub mod BranchLaws
+pub mod PhiLaws
+pub mod BlockLaws

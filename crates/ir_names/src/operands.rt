@@ -48,7 +48,7 @@ fn register(ty: &Ty, local: Option<Local>) -> Option<Construct>
     }
 }
 
-/// What is refused of a global or a function as a value at a type; a function is one in a fork alone.
+/// What is refused of a value that is what a name of a global or a function stands for.
 pub fn symbol(in_fork: bool, ty: &Ty, symbol: Option<Symbol>) -> Option<Construct>
     ensures { result ≡ least_of (as_symbol in_fork ty.now (option_map symbol_seen symbol.entry)) }
 {

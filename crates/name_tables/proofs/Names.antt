@@ -7,6 +7,7 @@ use Rattle.ir_core.specs.declared.module.Block.{Block}
 use Rattle.ir_core.specs.Given.{LocalName, block_names, local_given}
 use Rattle.ir_core.specs.Places.{place_in}
 use Rattle.name_tables.specs.Kept.{Kept, local_kept, name_kept, all_kept, kept_name, kept_local, one_block}
+use Rattle.name_tables.specs.Repeated.{kept_entry}
 use Rattle.name_tables.specs.Tables.{local_name}
 use Rattle.name_tables.proofs.First.{found_at}
 
@@ -29,6 +30,10 @@ one_block_more bs at d low =
 pub same_names : (ns : List LocalName) → map kept_name (all_kept ns) ≡ map local_name ns
 same_names [] = refl
 same_names (n ∷ ns) = ap (λ xs. n.name ∷ xs) (same_names ns)
+
+pub same_entries : (ns : List LocalName) → map kept_entry (all_kept ns) ≡ map (λ (n : LocalName). (n.name, n.line)) ns
+same_entries [] = refl
+same_entries (n ∷ ns) = ap (λ es. (n.name, n.line) ∷ es) (same_entries ns)
 
 kept_at : (ns : List LocalName) (at : ℕ) → option_map kept_local (slice_get (all_kept ns) at) ≡ option_map local_kept (option_map (λ (n : LocalName). n.given) (slice_get ns at))
 kept_at [] at = refl

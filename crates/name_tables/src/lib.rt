@@ -7,6 +7,7 @@ mod laws;
 mod least;
 mod locals;
 mod refusals;
+mod repeated;
 mod scalars;
 mod tables;
 
@@ -14,6 +15,7 @@ pub use laws::least_in_any_order;
 pub use least::{expects, lesser};
 pub use locals::{Local, Scope};
 pub use refusals::{earlier, is_before, refused_at};
+pub use repeated::if_second;
 pub use scalars::{
     is_int_of, is_integer, is_number_of, is_of, is_ptr, is_register_type, is_scalar, is_void,
     result_scalar, same_scalar, scalar_of,

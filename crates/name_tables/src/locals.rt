@@ -1,13 +1,17 @@
 //! The registers and blocks of a function by their names.
-ghost use Rattle.std.specs.Prelude.{◌≡◌, ◌++◌, map, IfOk, OnOk, option_map, slice_get};
+ghost use Rattle.std.specs.Prelude.{◌≡◌, ◌++◌, [], map, IfOk, OnOk, option_map, slice_get};
 ghost use Rattle.std.specs.List.{flat_map};
 ghost use Rattle.ir_core.specs.Given.{param_name, inst_names, block_names, local_names, local_given};
+ghost use Rattle.ir_core.specs.NameRefusals.{repeated, least};
 ghost use Rattle.ir_tables.specs.Names.{HasPlaces};
 ghost use Rattle.name_tables.specs.Kept.{all_seen, all_kept, local_kept, kept_name, kept_local, one_block};
+ghost use Rattle.name_tables.specs.Repeated.{kept_entry};
 
+use crate::refusals::earlier;
+use crate::repeated::if_second;
 use crate::scalars::{result_scalar, scalar_of};
 use crate::tables::{Tables, place};
-use ir_core::{Block, Function, Inst, List, Name, OutOfMemory, Param, Scalar};
+use ir_core::{Block, Function, Inst, List, Name, OutOfMemory, Param, Refusal, Scalar};
 use ir_tables::{NameTable, table_of};
 use std::alloc::Global;
 use std::marker::Model;
@@ -132,6 +136,17 @@ fn local_at(names: &[Kept], at: usize) -> Option<Local>
     }
 }
 
+fn repeated(names: &[Kept], places: &NameTable) -> Option<Refusal>
+    requires { HasPlaces (map kept_name (all_seen names.now)) places.now }
+    ensures { result ≡ least (repeated [] (map kept_entry (all_seen names.now))) }
+{
+    let mut found = None;
+    for (at, (name, line, _)) in names.iter().enumerate() {
+        found = earlier(found, if_second(places, at, *name, *line));
+    }
+    found
+}
+
 impl<'a> Scope<'a> {
     /// A function of the module with its names.
     pub fn of(
@@ -172,5 +187,12 @@ impl<'a> Scope<'a> {
             None => None,
             Some(at) => local_at(self.names.as_slice(), at),
         }
+    }
+
+    /// What is refused of the names of the function: `duplicate_name` at the line of one that is given before.
+    pub fn repeated(&self) -> Option<Refusal>
+        ensures { result ≡ least (repeated [] (map (λ n. (n.name, n.line)) (local_names self.now.1))) }
+    {
+        repeated(self.names.as_slice(), &self.places)
     }
 }
