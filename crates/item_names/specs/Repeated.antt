@@ -6,9 +6,6 @@ use Rattle.indexmap.specs.IndexMap.{IndexMap, get_by}
 use Rattle.ir_core.specs.declared.module.TypeDef.{TypeDef}
 use Rattle.ir_core.specs.declared.module.Global.{Global as GlobalItem}
 use Rattle.ir_core.specs.declared.module.Function.{Function}
-use Rattle.ir_core.specs.declared.refusal.Refusal.{Refusal}
-use Rattle.ir_core.specs.declared.refusal.Construct.TheVariants.{DuplicateName}
-use Rattle.ir_core.specs.NameRefusals.{at}
 use Rattle.ir_core.specs.Places.{Name}
 
 -- a name and its line
@@ -51,7 +48,3 @@ is_earliest place (Some p) = p.0 == place
 abbrev pub is_place : ℕ → Option ℕ → Bool
 is_place place None = false
 is_place place (Some p) = p == place
-
--- a name that is given before
-abbrev pub if_second : Bool → ℕ → List Refusal
-if_second second line = if second then at line (DuplicateName ∷ []) else []
