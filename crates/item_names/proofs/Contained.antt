@@ -16,10 +16,17 @@ use Rattle.ir_core.specs.Places.{Name, place_from, place_in}
 use Rattle.ir_core.specs.Wrappers.{is_in}
 use Rattle.ir_tables.specs.Names.{type_name, HasPlaces}
 use Rattle.name_tables.proofs.First.{first_at}
-use Rattle.item_names.specs.Circles.{listed, places_of, parts_of, found_parts, or_none, parts_at, has, leads}
+use Rattle.item_names.specs.Circles.{listed, found_parts, or_none, parts_at, has, leads}
 use Rattle.item_names.proofs.Ways.{has_append, same_of, true_or_false, itself}
 
 -- ---- places of names
+
+abbrev pub places_of : List Name → List Name → List ℕ
+places_of names xs = flat_map (λ x. listed (place_in names x)) xs
+
+-- for each type the places of its parts
+abbrev pub parts_of : List Name → List TypeDef → List (List ℕ)
+parts_of names types = map (λ d. places_of names (names_in d.body)) types
 
 named_there : (n : ℕ) (ys : List Name) (x : Name) (p : ℕ) → place_from n ys x ≡ Some p → (q : ℕ) × (p ≡ n + q) × (slice_get ys q ≡ Some x)
 named_there n [] x p e = absurd (none-some p e)

@@ -13,7 +13,8 @@ use Rattle.ir_core.specs.Places.{Name}
 use Rattle.ir_core.specs.NameRefusals.{least, repeated_by_line, is_behind, is_second}
 use Rattle.name_tables.specs.Least.{or_first}
 use Rattle.name_tables.proofs.RefusalLaws.{first_append, or_first-assoc}
-use Rattle.item_names.specs.Repeated.{entry_seen, entries_seen, sooner, earliest_from, is_earliest, if_second}
+use Rattle.name_tables.specs.Repeated.{if_second}
+use Rattle.item_names.specs.Repeated.{entry_seen, entries_seen, sooner, earliest_from, is_earliest}
 use Rattle.ir_tables.proofs.Places.{same_turned}
 use Rattle.item_names.proofs.ByLine.{second_between}
 

@@ -19,7 +19,9 @@ use Rattle.ir_tables.proofs.Places.{same_turned}
 use Rattle.name_tables.specs.Least.{or_first, at_line, least_of}
 use Rattle.ir_tables.specs.Names.{type_name}
 use Rattle.name_tables.proofs.RefusalLaws.{first_append, first_at, or_first-assoc, or_first-turned}
-use Rattle.item_names.specs.Repeated.{type_entry, is_place, if_second, is_told}
+use Rattle.name_tables.specs.Repeated.{if_second}
+use Rattle.item_names.specs.Repeated.{type_entry, is_place}
+use Rattle.item_names.specs.Items.{is_told}
 
 -- ---- what is told of several refusals
 

@@ -6,26 +6,20 @@ use Rattle.std.specs.declared.vec.Vec.{Vec}
 use Rattle.indexmap.specs.IndexMap.{IndexMap}
 use Rattle.ir_core.specs.declared.module.TypeDef.{TypeDef}
 use Rattle.ir_core.specs.Given.{names_in}
-use Rattle.ir_core.specs.Places.{Name, place_in}
+use Rattle.ir_core.specs.Places.{Name}
 use Rattle.ir_tables.specs.Names.{found_place}
 
--- ---- the places of the types that have a name
+-- ---- the places of the types that have some names
 
 abbrev pub listed : Option ℕ → List ℕ
 listed None = []
 listed (Some place) = place ∷ []
 
-abbrev pub places_of : List Name → List Name → List ℕ
-places_of names xs = flat_map (λ x. listed (place_in names x)) xs
-
--- for each type the places of its parts
-abbrev pub parts_of : List Name → List TypeDef → List (List ℕ)
-parts_of names types = map (λ d. places_of names (names_in d.body)) types
-
--- the same by a table
+-- the places that a table has
 abbrev pub found_places : {S : Type 0} → IndexMap (Vec ℕ Global) ℕ S → List Name → List ℕ
 found_places table xs = flat_map (λ x. listed (found_place table x)) xs
 
+-- for each type the places of its parts
 abbrev pub found_parts : {S : Type 0} → IndexMap (Vec ℕ Global) ℕ S → List TypeDef → List (List ℕ)
 found_parts table types = map (λ d. found_places table (names_in d.body)) types
 

@@ -1,14 +1,11 @@
 -- Where a name of a list stands first by line.
-use Rattle.std.specs.Prelude.{◌≡◌, ℕ, ◌+◌, List, [], ◌∷◌, map, Bool, true, false, Option, Some, None, nat_lt, ◌==◌, if◌then◌else◌}
+use Rattle.std.specs.Prelude.{◌≡◌, ℕ, ◌+◌, List, [], ◌∷◌, map, Bool, false, Option, Some, None, nat_lt, ◌==◌, if◌then◌else◌}
 use Rattle.std.specs.Borrow.{Bor}
 use Rattle.std.specs.Str.{bytes_eq}
 use Rattle.indexmap.specs.IndexMap.{IndexMap, get_by}
 use Rattle.ir_core.specs.declared.module.TypeDef.{TypeDef}
 use Rattle.ir_core.specs.declared.module.Global.{Global as GlobalItem}
 use Rattle.ir_core.specs.declared.module.Function.{Function}
-use Rattle.ir_core.specs.declared.refusal.Refusal.{Refusal}
-use Rattle.ir_core.specs.declared.refusal.Construct.TheVariants.{DuplicateName}
-use Rattle.ir_core.specs.NameRefusals.{at, is_before}
 use Rattle.ir_core.specs.Places.{Name}
 
 -- a name and its line
@@ -51,12 +48,3 @@ is_earliest place (Some p) = p.0 == place
 abbrev pub is_place : ℕ → Option ℕ → Bool
 is_place place None = false
 is_place place (Some p) = p == place
-
--- a name that is given before
-abbrev pub if_second : Bool → ℕ → List Refusal
-if_second second line = if second then at line (DuplicateName ∷ []) else []
-
--- whether a refusal is told beside what is found
-abbrev pub is_told : Refusal → Option Refusal → Bool
-is_told r None = true
-is_told r (Some found) = is_before r found

@@ -3,7 +3,8 @@
 
 ghost use Rattle.std.specs.Prelude.{◌≡◌, [], ◌∷◌, ◌++◌, map, IfOk, OnOk, if◌then◌else◌};
 ghost use Rattle.ir_core.specs.NameRefusals.{least, repeated_by_line, global_names};
-ghost use Rattle.item_names.specs.Repeated.{entries_seen, global_entry, function_entry, sooner, earliest_from, found_earliest, HasEarliest, is_earliest, if_second};
+ghost use Rattle.name_tables.specs.Repeated.{if_second};
+ghost use Rattle.item_names.specs.Repeated.{entries_seen, global_entry, function_entry, sooner, earliest_from, found_earliest, HasEarliest, is_earliest};
 
 use indexmap::IndexMap;
 use ir_core::{Construct, Function, List, Module, OutOfMemory, Refusal};

@@ -7,7 +7,8 @@ ghost use Rattle.ir_core.specs.Typing.{expects};
 ghost use Rattle.ir_core.specs.NameRefusals.{least, repeated, of_type};
 ghost use Rattle.name_tables.specs.Least.{or_first, at_line, least_of};
 ghost use Rattle.item_names.specs.Circles.{parts_at, leads, descends_from};
-ghost use Rattle.item_names.specs.Repeated.{type_entry, is_told};
+ghost use Rattle.item_names.specs.Repeated.{type_entry};
+ghost use Rattle.item_names.specs.Items.{is_told};
 
 use crate::circles::{contains_itself, is_descending, may_lead};
 use crate::components::ranks_of;

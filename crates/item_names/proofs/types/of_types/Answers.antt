@@ -10,9 +10,9 @@ use Rattle.ir_core.specs.NameRefusals.{contains_itself}
 use Rattle.ir_tables.specs.Names.{found_place, HasPlaces}
 use Rattle.name_tables.specs.Least.{or_first, at_line, least_of}
 use Rattle.ir_tables.specs.Names.{type_name}
-use Rattle.item_names.specs.Circles.{found_parts, parts_of, parts_at, leads}
+use Rattle.item_names.specs.Circles.{found_parts, parts_at, leads}
 use Rattle.item_names.specs.Repeated.{is_place}
-use Rattle.item_names.proofs.Contained.{on_circle, parts_found}
+use Rattle.item_names.proofs.Contained.{parts_of, on_circle, parts_found}
 use Rattle.item_names.proofs.TypeLaws.{TypesTold, one_told, place_is, all_told}
 use Rattle.item_names.proofs.types.of_types.Goals as goal
 
