@@ -9,4 +9,3 @@ pub mod Moved
 pub mod Nexts
 pub mod Results
 pub mod Returned
-pub mod Few

@@ -1,3 +1,4 @@
 pub mod Apart
 pub mod Tables
 pub mod Given
+pub mod Least

@@ -1,22 +1,20 @@
 //! The check of a whole module.
 ghost use Rattle.std.specs.Prelude.{◌≡◌, IfOk, IfErr, nat_le, true};
-ghost use Rattle.std.specs.List.{flat_map, list_all};
+ghost use Rattle.std.specs.List.{list_all};
 ghost use Rattle.ir_core.specs.FirstForm.{is_first_form, are_functions, only_functions, is_well_formed, has_good_names, instruction_count, instruction_limit, local_names};
 ghost use Rattle.ir_core.specs.NameRefusals.{name_refusals, least};
 ghost use Rattle.ir_tables.specs.Checked.{HasNoRefusal};
 ghost use Rattle.ir_core.specs.Text.{is_word};
 ghost use Rattle.ir_check.specs.Names.{entries_of, names_seen, key_of, is_typed, has_good_code, Entry};
-ghost use Rattle.item_names.specs.Items.{of_inside};
 ghost use Rattle.ir_check.specs.Refusal.{IsCheckRefusal};
 
 use crate::kernel::{declares_deinit, declares_init, is_kernel};
 use crate::names::{Given, given_in, table_of};
 use crate::typing::blocks_well_typed;
 use ir_core::{Block, Construct, Function, Module, Or, OutOfMemory, Refusal, is_word};
-use ir_names::of_body;
 use ir_tables::{Checked, Indexed};
-use item_names::of_items;
-use name_tables::{Tables, earlier};
+use item_names::of_module;
+use name_tables::Tables;
 use std::alloc::Global;
 
 const INSTRUCTION_LIMIT: usize = 200_000;
@@ -109,30 +107,12 @@ fn has_first_form(alloc: Global, m: &Module) -> Result<bool, OutOfMemory>
     }
 }
 
-/// What is refused of functions below their headings.
-fn bodies_refused<'a>(
-    alloc: Global,
-    tables: &'a Tables<'a>,
-    functions: &'a [Function],
-) -> Result<Option<Refusal>, OutOfMemory>
-    ensures { IfOk result (λ r. r ≡ least (flat_map (of_inside tables.now) functions.now)) }
-{
-    let mut found = None;
-    for f in functions {
-        let refused = of_body(alloc, tables, f)?;
-        found = earlier(found, refused);
-    }
-    Ok(found)
-}
-
 /// What is refused of names and types: of all refusals the one of the least line, and on one line of the least number.
 fn names_refused(alloc: Global, m: &Indexed) -> Result<Option<Refusal>, OutOfMemory>
     ensures { IfOk result (λ r. r ≡ least (name_refusals m.now)) }
 {
     let tables = Tables::of(m);
-    let items = of_items(alloc, &tables)?;
-    let bodies = bodies_refused(alloc, &tables, m.module().functions.as_slice())?;
-    Ok(earlier(items, bodies))
+    of_module(alloc, &tables)
 }
 
 /// The module, known to have no refusal, with tables of its names.

@@ -4,6 +4,7 @@ use ir_core::{
     Block, Construct, Edge, Function, Inst, Kind, List, Module, Name, Order, OutOfMemory, Refusal,
     Ty, Typed, Value,
 };
+use ir_tables::Indexed;
 use name_tables::Tables;
 use std::alloc::{AllocError, Global};
 use std::test::Fail;
@@ -139,8 +140,8 @@ fn entries_of_a_phi(rt: HostRuntime) -> Result<(), Fail> {
         (&[(1, left), (2, right), (3, right)], false, Some(5)),
     ];
     let alloc = rt.alloc();
-    let module = empty_module(alloc);
-    let tables = Tables::of(alloc, &module)?;
+    let module = Indexed::of(alloc, empty_module(alloc))?;
+    let tables = Tables::of(&module);
     for (entries, fence, line) in &rows {
         assert_eq!(rt; refused(alloc, &tables, *entries, *fence)?, *line);
     }

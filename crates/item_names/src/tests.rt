@@ -4,6 +4,7 @@ use ir_core::{
     Block, Boxed, Element, Function, Global as GlobalItem, Init, List, Module, Name, OutOfMemory,
     Param, Ty, TypeDef,
 };
+use ir_tables::Indexed;
 use name_tables::Tables;
 use std::alloc::{AllocError, Global};
 use std::test::Fail;
@@ -376,8 +377,9 @@ fn no_items(alloc: Global) -> Module {
 }
 
 // The name of the construct that is told, and its line.
-fn told(alloc: Global, m: &Module) -> Result<(&'static [u8], u32), OutOfMemory> {
-    let tables = Tables::of(alloc, m)?;
+fn told(alloc: Global, m: Module) -> Result<(&'static [u8], u32), OutOfMemory> {
+    let m = Indexed::of(alloc, m)?;
+    let tables = Tables::of(&m);
     match of_items(alloc, &tables)? {
         None => Ok((b"", 0)),
         Some(refusal) => Ok((refusal.construct.name(), refusal.line)),
@@ -389,7 +391,7 @@ fn told_of(alloc: Global, items: &[(u32, Item)]) -> Result<(&'static [u8], u32),
     for (line, item) in items {
         add_item(alloc, &mut m, *item, *line)?;
     }
-    told(alloc, &m)
+    told(alloc, m)
 }
 
 #[test]
@@ -433,7 +435,7 @@ fn chain(alloc: Global, count: u32, back: u32) -> Result<Module, AllocError> {
 fn long_circles(rt: HostRuntime) -> Result<(), Fail> {
     let alloc = rt.alloc();
     for back in [0, 10_000, 19_999] {
-        let told = told(alloc, &chain(alloc, 20_000, back)?)?;
+        let told = told(alloc, chain(alloc, 20_000, back)?)?;
         assert_eq!(rt; told, (b"type_mismatch".as_slice(), back + 1));
     }
     Ok(())

@@ -8,12 +8,10 @@ use Rattle.ir_core.specs.declared.refusal.Refusal.{Refusal}
 use Rattle.ir_core.specs.Spell.{IsFirstRefused}
 use Rattle.ir_core.specs.Language.{module_to_end, Reads}
 use Rattle.ir_core.specs.TextRefusals.{IsTextRefusal, IsRefusalAt}
-use Rattle.io_edge.specs.Outside.{read_limit}
 use Rattle.opt_core.specs.Answer.{Accepts, IsRefusal, IsTextReply, IsFileReply}
 
-limits : read_limit ≡ text_limit + 1
-unfolding read_limit text_limit
-limits = refl
+abbrev read_limit : ℕ
+read_limit = text_limit + 1
 
 -- what reading tells apart in a text: the bytes up to the limit, and whether there are more
 record Alike (a b : List ℕ) : Type 0 where
@@ -49,7 +47,7 @@ turned a b e = record { fronts = sym e.fronts; longer = sym e.longer }
 
 alike : (text : List ℕ) → Alike (take read_limit text) text
 alike text = record {
-  fronts = take-take text_limit read_limit text (omega (arith, limits));
+  fronts = take-take text_limit read_limit text (omega arith);
   longer = by_length (cases_lt text_limit (length text));
 }
   where
@@ -57,8 +55,8 @@ alike text = record {
     n = length-take read_limit text
 
     by_length : (text_limit < length text) ⊎ (length text ≤ text_limit) → nat_lt text_limit (length (take read_limit text)) ≡ nat_lt text_limit (length text)
-    by_length (inl long) = lt-ltb text_limit (length (take read_limit text)) (omega (arith, limits, n)) ∙ sym (lt-ltb text_limit (length text) long)
-    by_length (inr short) = le-ltb text_limit (length (take read_limit text)) (omega (arith, limits, n)) ∙ sym (le-ltb text_limit (length text) short)
+    by_length (inl long) = lt-ltb text_limit (length (take read_limit text)) (omega (arith, n)) ∙ sym (lt-ltb text_limit (length text) long)
+    by_length (inr short) = le-ltb text_limit (length (take read_limit text)) (omega (arith, n)) ∙ sym (le-ltb text_limit (length text) short)
 
 pub accepts_front : (text : List ℕ) (m : Module) → Accepts text m → Accepts (take read_limit text) m
 accepts_front text m (reads, form) = (reads_same text (take read_limit text) m (turned (take read_limit text) text (alike text)) reads, form)

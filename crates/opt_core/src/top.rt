@@ -1,5 +1,6 @@
 //! The top call: what the program answers to its words, over the inputs and into the sinks.
-ghost use Rattle.std.specs.Prelude.{◌≡◌, ◌≢◌, ◌⊎◌, codes, IfOk, ◌<◌, IfErr, OnOk, OnErr, IfSome, MatchOption, None, Some};
+ghost use Rattle.std.specs.Prelude.{◌≡◌, ◌≢◌, ◌⊎◌, ◌+◌, ◌≤◌, codes, IfOk, ◌<◌, IfErr, OnOk, OnErr, IfSome, MatchOption, None, Some};
+ghost use Rattle.ir_core.specs.Tokens.{text_limit};
 ghost use Rattle.io_edge.specs.Outside.{Rose, Grows, GrowsByFront};
 ghost use Rattle.opt_core.specs.Answer.{texts, path_of, IsBadWords, IsAnswer, IsTold, HasRisen, IsNotTaken};
 
@@ -22,6 +23,15 @@ fn path_in(words: &[String]) -> Option<&str>
         }
         _ => None,
     }
+}
+
+/// How many bytes of a module's text are read: those that a text may have, and one more, so that a longer one shows.
+#[tactic(auto, unfolding(ir_core::specs::Tokens::text_limit))]
+fn text_read_limit() -> usize
+    ensures value { result ≡ text_limit + 1 }
+    ensures near { result ≤ 33554433 }
+{
+    4_194_305
 }
 
 fn bad_words(alloc: Global) -> Result<Reply, ReadFault>
@@ -50,7 +60,7 @@ fn reply_to_words<I: Inputs>(
     let Some(path) = path_in(words) else {
         return bad_words(alloc);
     };
-    let text = read_file(alloc, inputs, path)?;
+    let text = read_file(alloc, inputs, path, text_read_limit())?;
     match reply_to_text(alloc, text.as_slice()) {
         Ok(reply) => Ok(reply),
         Err(OutOfMemory) => Err(ReadFault::Memory),
