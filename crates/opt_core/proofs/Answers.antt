@@ -46,6 +46,10 @@ pub is_optimised : (text : List ℕ) (m : Module) (result : Result Reply OutOfMe
 is_optimised text m (Ok r) accepts h = inl (m, accepts, λ l fits. machine_off_refines m l accepts.1.form fits, h.0, h.1, h.2)
 is_optimised text m (Err e) accepts h = tt
 
+pub own_status : (m : Module) (result : Result Reply OutOfMemory) → IfOk result (λ r. (r.status ≡ 0) × (r.out ≡ Text (machine_off m)) × (r.notes ≡ remarks_text (Remarks m))) → IfOk result (λ r. r.status < 5)
+own_status m (Ok r) h = let zero = h.0 in omega arith
+own_status m (Err e) h = tt
+
 pub is_refused : (text : List ℕ) (r : Refusal) (result : Result Reply OutOfMemory) → IsNotAccepted text (Refused r) → IfOk result (λ x. (x.status ≡ 3) × (x.out ≡ []) × (x.notes ≡ refusal_text r ++ codes "\n")) → IfOk result (λ x. IsTextReply text x.status x.out x.notes)
 is_refused text r (Ok x) refused h = inr (r, refused.0, refused.1, h.0, h.1, h.2)
 is_refused text r (Err e) refused h = tt
