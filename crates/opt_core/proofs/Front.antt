@@ -40,7 +40,7 @@ text_refusal_same a b r e h =
 
 refusal_same : (a b : List ℕ) (r : Refusal) → Alike a b → IsRefusal a r → IsRefusal b r
 refusal_same a b r e (inl h) = inl (text_refusal_same a b r e h)
-refusal_same a b r e (inr (m, reads, none, same)) = inr (m, reads_same a b m e reads, none, same)
+refusal_same a b r e (inr (m, reads, refused)) = inr (m, reads_same a b m e reads, refused)
 
 turned : (a b : List ℕ) → Alike a b → Alike b a
 turned a b e = record { fronts = sym e.fronts; longer = sym e.longer }
