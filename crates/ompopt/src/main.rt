@@ -3,7 +3,8 @@
 
 ghost use Rattle.std.specs.Prelude.{◌≡◌};
 
-use opt_core::{FileInputs, Sink, StreamSink, opt_main};
+use io_edge::{FileInputs, Sink, StreamSink};
+use opt_core::opt_main;
 use std::alloc::Global;
 use std::env;
 use std::process::ExitCode;

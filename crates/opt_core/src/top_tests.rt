@@ -3,9 +3,9 @@ ghost use Rattle.std.specs.Prelude.{◌≡◌, Contains, IfOk, Some};
 ghost use Rattle.opt_core.specs.Answer.{path_of, texts};
 ghost use Rattle.io_edge.specs.Files.{names_of};
 
-use crate::memory::{SureInputs, SureSink};
-use crate::memory_tests::one_file;
 use crate::top::opt_main;
+use io_edge::{NamedFile, SureInputs, SureSink};
+use ir_core::{FileName, List};
 use std::alloc::{AllocError, Global};
 use std::test::Fail;
 
@@ -24,6 +24,18 @@ exit:
 declare i32 @__kmpc_target_init(ptr, i8, i1)
 declare void @__kmpc_target_deinit(ptr, i8)
 ";
+
+// Inputs that hold one file.
+fn one_file(alloc: Global, name: &str, text: Vec<u8>) -> Result<SureInputs, AllocError>
+    ensures { IfOk result (λ inputs. Contains (names_of inputs) name.now) }
+{
+    let mut files = List::new(alloc);
+    files.push(NamedFile {
+        name: FileName::new(String::from_str(alloc, name)?),
+        bytes: Some(List::from_vec(text)),
+    })?;
+    Ok(SureInputs::new(files))
+}
 
 fn opt_words(alloc: Global, name: &str) -> Result<Vec<String>, AllocError>
     ensures { IfOk result (λ words. path_of (texts words.items) ≡ Some name.now) }
