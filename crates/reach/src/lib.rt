@@ -1,0 +1,2 @@
+//! Chains of hops.
+#![tactic(auto)]

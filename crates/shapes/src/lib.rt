@@ -1,0 +1,2 @@
+//! The definitions of the rules on shapes: kernels, wrappers, forks, clauses, nested regions and limits.
+#![tactic(auto)]
