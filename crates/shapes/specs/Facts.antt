@@ -17,13 +17,14 @@ use Rattle.ir_core.specs.declared.rtl.Rtl.{Rtl}
 use Rattle.ir_core.specs.EntryPoints.{entry_name}
 use Rattle.ir_core.specs.FirstForm.{is_function, is_number}
 use Rattle.ir_core.specs.Places.{Name}
+use Rattle.shapes.specs.Insts.{block_insts}
 
 -- a rule that doesn't hold is refused
 abbrev pub rule : Construct → Bool → ℕ → List Refusal
 rule c holds line = if holds then [] else record { construct = c; line = line } ∷ []
 
 abbrev pub insts_of : Function → List Inst
-insts_of f = flat_map (λ b. b.insts) f.blocks
+insts_of f = flat_map block_insts f.blocks
 
 abbrev pub insts_in : Module → List Inst
 insts_in m = flat_map insts_of m.functions

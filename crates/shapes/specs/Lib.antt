@@ -1,3 +1,4 @@
+pub mod Insts
 pub mod Facts
 pub mod Uses
 pub mod KernelShape

@@ -1,7 +1,7 @@
 -- How large a module may be: its functions, blocks and instructions, the captures of a region, and the size of a type.
-use Rattle.std.specs.Prelude.{ℕ, List, [], ◌∷◌, ◌++◌, drop, length, map, Bool, true, false, not, nat_lt, Option, Some, None, option_map, if◌then◌else◌}
+use Rattle.std.specs.Prelude.{ℕ, List, [], ◌∷◌, ◌++◌, drop, map, Bool, true, false, not, nat_lt, Option, Some, None, if◌then◌else◌}
 use Rattle.std.specs.List.{flat_map, list_any}
-use Rattle.ir_core.specs.declared.types.Ty.{Ty, fold-Ty}
+use Rattle.ir_core.specs.declared.types.Ty.{Ty, fold-Ty, roll-Ty, map-Ty}
 use Rattle.ir_core.specs.declared.types.Ty.TheOpen.{Ty-F}
 use Rattle.ir_core.specs.declared.instructions.Value.{Value}
 use Rattle.ir_core.specs.declared.instructions.Value.TheVariants.{Int as IntValue}
@@ -17,7 +17,7 @@ use Rattle.ir_core.specs.declared.module.Init.TheOpen.{Init-F, Element-F}
 use Rattle.ir_core.specs.declared.refusal.Construct.TheVariants.{Limit}
 use Rattle.ir_core.specs.declared.refusal.Refusal.{Refusal}
 use Rattle.ir_core.specs.declared.rtl.Rtl.TheVariants.{Parallel}
-use Rattle.ir_core.specs.Layout.{Layout, integer_layout, scalar_layout, array_layout, struct_layout, all_some, named_layout}
+use Rattle.ir_core.specs.Layout.{Size}
 use Rattle.shapes.specs.Facts.{rule, insts_in, is_call_of, operand_of}
 
 unfoldable pub function_limit : ℕ
@@ -67,28 +67,32 @@ of_captures i = rule Limit (if is_call_of Parallel i then has_few (operand_of i 
 
 -- ---- sizes
 
--- a type's layout, and whether it or a part of it is too large
-pub record Measured : Type 0 where
-  pub layout : Option Layout
-  pub is_large : Bool
+-- a type, and whether it or a part of it takes more bytes than a type may
+abbrev pub Measured : Type 0
+Measured = Ty × Bool
 
-abbrev pub is_large_layout : Option Layout → Bool
-is_large_layout None = false
-is_large_layout (Some l) = nat_lt size_limit l.size
+abbrev pub measured_type : Measured → Ty
+measured_type part = part.0
 
-abbrev pub measured : Bool → Option Layout → Measured
-measured part_is_large layout = record { layout = layout; is_large = if part_is_large then true else is_large_layout layout }
+abbrev pub is_measured_large : Measured → Bool
+is_measured_large part = part.1
 
-abbrev pub measure_layer : (List ℕ → Option Layout) → Ty-F Measured → Measured
-measure_layer named Ty-F.Void = measured false None
-measure_layer named (Ty-F.Int width) = measured false (integer_layout width)
-measure_layer named Ty-F.Ptr = measured false (Some (scalar_layout 8))
-measure_layer named (Ty-F.Array n item) = measured item.is_large (option_map (array_layout n) item.layout)
-measure_layer named (Ty-F.Struct fields) = measured (list_any (λ f. f.is_large) fields) (option_map struct_layout (all_some (map (λ f. f.layout) fields)))
-measure_layer named (Ty-F.Named x) = measured false (named x)
+abbrev pub part_is_large : Ty-F Measured → Bool
+part_is_large (Ty-F.Array n item) = is_measured_large item
+part_is_large (Ty-F.Struct fields) = list_any is_measured_large fields
+part_is_large _ = false
+
+abbrev pub whole_type : Ty-F Measured → Ty
+whole_type layer = roll-Ty (map-Ty Measured Ty measured_type layer)
+
+abbrev pub measure_layer : List TypeDef → Ty-F Measured → Measured
+measure_layer types layer = (whole_type layer, if part_is_large layer then true else nat_lt size_limit (Size types (whole_type layer)))
+
+abbrev pub measure : List TypeDef → Ty → Measured
+measure types = fold-Ty Measured (measure_layer types)
 
 abbrev pub is_large : List TypeDef → Ty → Bool
-is_large types ty = (fold-Ty Measured (measure_layer (named_layout (length types) types)) ty).is_large
+is_large types ty = is_measured_large (measure types ty)
 
 abbrev pub of_size : Module → ℕ → Ty → List Refusal
 of_size m line ty = rule Limit (not (is_large m.types ty)) line

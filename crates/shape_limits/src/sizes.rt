@@ -1,0 +1,49 @@
+//! How many bytes the types of a module take.
+ghost use Rattle.std.specs.Prelude.{◌≡◌};
+ghost use Rattle.std.specs.List.{flat_map, list_any};
+ghost use Rattle.ir_core.specs.NameRefusals.{least};
+ghost use Rattle.shapes.specs.Limits as spec;
+
+use ir_core::{Construct, Element, Init, Refusal, Ty};
+use ir_tables::Indexed;
+use name_tables::earlier;
+use shape_facts::rule;
+
+#[tactic(auto, unfolding(shapes::specs::Limits::size_limit))]
+fn size_limit() -> u64
+    ensures { result ≡ spec.size_limit }
+{
+    1_048_576
+}
+
+/// Whether a type, or a part of it, takes more bytes than a type may.
+#[cycle(is_large)]
+fn is_large(ty: &Ty, m: &Indexed) -> bool
+    ensures { result ≡ spec.is_large m.now.types ty.now }
+{
+    let part_is_large = match ty {
+        Ty::Array(_, item) => is_large(item.get(), m),
+        Ty::Struct(fields) => any_is_large(fields.as_slice(), m),
+        Ty::Void | Ty::Int(_) | Ty::Ptr | Ty::Named(_) => false,
+    };
+    part_is_large || m.size_of(ty) > size_limit()
+}
+
+#[cycle(is_large)]
+fn any_is_large(tys: &[Ty], m: &Indexed) -> bool
+    ensures { result ≡ list_any (spec.is_large m.now.types) tys.now }
+{
+    for ty in tys {
+        if is_large(ty, m) {
+            return true;
+        }
+    }
+    false
+}
+
+/// What is told of a type's size, on a line.
+pub fn of_size(m: &Indexed, line: u32, ty: &Ty) -> Option<Refusal>
+    ensures { result ≡ least (spec.of_size m.now line ty.now) }
+{
+    rule(Construct::Limit, !is_large(ty, m), line)
+}
