@@ -1,7 +1,8 @@
 //! How many bytes the types of a module take.
-ghost use Rattle.std.specs.Prelude.{◌≡◌};
+ghost use Rattle.std.specs.Prelude.{◌≡◌, ◌<◌, nat_lt};
 ghost use Rattle.std.specs.List.{flat_map, list_any};
 ghost use Rattle.ir_core.specs.NameRefusals.{least};
+ghost use Rattle.ir_core.specs.Layout.{Size};
 ghost use Rattle.shapes.specs.Limits as spec;
 
 use ir_core::{Construct, Element, Init, Refusal, Ty};
@@ -11,22 +12,30 @@ use shape_facts::rule;
 
 #[tactic(auto, unfolding(shapes::specs::Limits::size_limit))]
 fn size_limit() -> u64
-    ensures { result ≡ spec.size_limit }
+    ensures value { result ≡ spec.size_limit }
+    ensures near { result < 2000000 }
 {
     1_048_576
 }
 
+/// Whether a type takes more bytes than a type may.
+fn is_too_long(ty: &Ty, m: &Indexed) -> bool
+    ensures { result ≡ nat_lt spec.size_limit (Size m.now.types ty.now) }
+{
+    m.size_of(ty) > size_limit()
+}
+
 /// Whether a type, or a part of it, takes more bytes than a type may.
+#[tactic(auto, using(crate::proofs::LimitLaws::large_is))]
 #[cycle(is_large)]
 fn is_large(ty: &Ty, m: &Indexed) -> bool
     ensures { result ≡ spec.is_large m.now.types ty.now }
 {
-    let part_is_large = match ty {
-        Ty::Array(_, item) => is_large(item.get(), m),
-        Ty::Struct(fields) => any_is_large(fields.as_slice(), m),
-        Ty::Void | Ty::Int(_) | Ty::Ptr | Ty::Named(_) => false,
-    };
-    part_is_large || m.size_of(ty) > size_limit()
+    match ty {
+        Ty::Array(_, item) => is_large(item.get(), m) || is_too_long(ty, m),
+        Ty::Struct(fields) => any_is_large(fields.as_slice(), m) || is_too_long(ty, m),
+        Ty::Void | Ty::Int(_) | Ty::Ptr | Ty::Named(_) => is_too_long(ty, m),
+    }
 }
 
 #[cycle(is_large)]
