@@ -3,8 +3,9 @@
 
 mod clauses;
 mod counts;
+mod limits;
 
 mod sizes;
 
 pub use clauses::of_all_clauses;
-pub use sizes::of_size;
+pub use limits::of_limits;

@@ -106,9 +106,12 @@ init_types_layer _ = []
 abbrev pub element_types_layer : Element-F (List Ty) (List Ty) → List Ty
 element_types_layer e = e.ty ∷ e.init
 
+abbrev pub init_types : Init → List Ty
+init_types init = fold-Init (List Ty) (List Ty) init_types_layer element_types_layer init
+
 abbrev pub contents_types : Option Init → List Ty
 contents_types None = []
-contents_types (Some init) = fold-Init (List Ty) (List Ty) init_types_layer element_types_layer init
+contents_types (Some init) = init_types init
 
 abbrev pub of_global : Module → Global → List Refusal
 of_global m g = flat_map (of_size m g.line) (g.ty ∷ contents_types g.init)
