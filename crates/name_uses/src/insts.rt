@@ -1,17 +1,18 @@
 //! Names in instructions.
-ghost use Rattle.std.specs.Prelude.{◌≡◌, ◌++◌, slice_get, OnOk};
+ghost use Rattle.std.specs.Prelude.{◌≡◌, ◌++◌, take, drop, OnOk, if◌then◌else◌};
 ghost use Rattle.std.specs.List.{flat_map};
-ghost use Rattle.ir_core.specs.Typing.{is_fork};
-ghost use Rattle.ir_core.specs.Wrappers.{value_names, kind_callees, kind_wrappers};
+ghost use Rattle.ir_core.specs.Typing as typing;
+ghost use Rattle.ir_core.specs.Wrappers.{value_names, inst_callees, inst_wrappers};
 ghost use Rattle.ir_tables.specs.Names.{names_seen};
-ghost use Rattle.shapes.specs.Uses.{values_in, kind_names_elsewhere, typed_names};
-ghost use Rattle.name_uses.specs.Names.{operand_names};
+ghost use Rattle.shapes.specs.Insts.{insts_seen};
+ghost use Rattle.shapes.specs.Uses.{operand_names, case_names, kind_names, inst_names, kind_names_elsewhere, inst_names_elsewhere, without_wrapper, fork_names};
 
-use crate::names::{add_cases, add_edges, add_operands, add_pair, add_returned, add_value};
-use ir_core::{Kind, List, OutOfMemory, Rtl, Typed, Value};
+use crate::names::{add_cases, add_edges, add_operands, add_optional, add_pair, add_value};
+use ir_core::{Case, Inst, Kind, List, OutOfMemory, Rtl, Typed, Value};
+use shape_facts::{is_call_of, operand_of};
 
-pub fn is_fork(callee: &Value) -> bool
-    ensures { result ≡ is_fork callee.now }
+fn is_fork(callee: &Value) -> bool
+    ensures { result ≡ typing.is_fork callee.now }
 {
     match callee {
         Value::Global(name) => name.as_slice() == Rtl::Parallel.name(),
@@ -19,74 +20,97 @@ pub fn is_fork(callee: &Value) -> bool
     }
 }
 
-fn add_call<'a>(
+fn add_with_operands<'a>(
     names: &mut List<&'a [u8]>,
-    callee: &'a Value,
+    first: &'a Value,
     operands: &'a [Typed],
 ) -> Result<(), OutOfMemory>
-    ensures { OnOk result (names_seen names.new ≡ names_seen names.old ++ (value_names callee.now ++ flat_map operand_names operands.now)) }
+    ensures { OnOk result (names_seen names.new ≡ names_seen names.old ++ (value_names first.now ++ flat_map operand_names operands.now)) }
 {
-    add_value(names, callee)?;
+    add_value(names, first)?;
     add_operands(names, operands)
 }
 
-fn add_select<'a>(
+fn add_with_pair<'a>(
     names: &mut List<&'a [u8]>,
-    cond: &'a Value,
-    a: &'a Value,
-    b: &'a Value,
+    first: &'a Value,
+    second: &'a Value,
+    third: &'a Value,
 ) -> Result<(), OutOfMemory>
-    ensures { OnOk result (names_seen names.new ≡ names_seen names.old ++ (value_names cond.now ++ (value_names a.now ++ value_names b.now))) }
+    ensures { OnOk result (names_seen names.new ≡ names_seen names.old ++ (value_names first.now ++ (value_names second.now ++ value_names third.now))) }
 {
-    add_value(names, cond)?;
-    add_pair(names, a, b)
+    add_value(names, first)?;
+    add_pair(names, second, third)
 }
 
-fn add_address<'a>(
+fn add_with_cases<'a>(
     names: &mut List<&'a [u8]>,
-    base: &'a Value,
-    path: &'a [Typed],
+    first: &'a Value,
+    cases: &'a [Case],
 ) -> Result<(), OutOfMemory>
-    ensures { OnOk result (names_seen names.new ≡ names_seen names.old ++ (value_names base.now ++ flat_map operand_names path.now)) }
+    ensures { OnOk result (names_seen names.new ≡ names_seen names.old ++ (value_names first.now ++ flat_map case_names cases.now)) }
 {
-    add_value(names, base)?;
-    add_operands(names, path)
+    add_value(names, first)?;
+    add_cases(names, cases)
 }
 
 /// The names in an instruction's operands, and the callee of a call.
-pub fn add_kind<'a>(names: &mut List<&'a [u8]>, kind: &'a Kind) -> Result<(), OutOfMemory>
-    ensures { OnOk result (names_seen names.new ≡ names_seen names.old ++ flat_map value_names (values_in kind.now)) }
+fn add_kind<'a>(names: &mut List<&'a [u8]>, kind: &'a Kind) -> Result<(), OutOfMemory>
+    ensures { OnOk result (names_seen names.new ≡ names_seen names.old ++ kind_names kind.now) }
 {
     match kind {
         Kind::Bin { a, b, .. } => add_pair(names, a, b),
         Kind::ICmp { a, b, .. } => add_pair(names, a, b),
         Kind::Cast { from, .. } => add_value(names, &from.value),
-        Kind::Select { cond, a, b } => add_select(names, &cond.value, &a.value, &b.value),
+        Kind::Select { cond, a, b } => add_with_pair(names, &cond.value, &a.value, &b.value),
         Kind::Phi { edges, .. } => add_edges(names, edges.as_slice()),
         Kind::Load { at, .. } => add_value(names, &at.value),
         Kind::Store { value, at, .. } => add_pair(names, &value.value, &at.value),
         Kind::Rmw { at, value, .. } => add_pair(names, &at.value, &value.value),
-        Kind::Gep { base, path, .. } => add_address(names, &base.value, path.as_slice()),
-        Kind::Call { callee, args, .. } => add_call(names, callee, args.as_slice()),
+        Kind::Gep { base, path, .. } => add_with_operands(names, &base.value, path.as_slice()),
+        Kind::Call { callee, args, .. } => add_with_operands(names, callee, args.as_slice()),
         Kind::CondBr { cond, .. } => add_value(names, &cond.value),
-        Kind::Switch { on, cases, .. } => add_switch(names, &on.value, cases.as_slice()),
-        Kind::Ret { value } => add_returned(names, value),
+        Kind::Switch { on, cases, .. } => add_with_cases(names, &on.value, cases.as_slice()),
+        Kind::Ret { value } => add_optional(names, value),
         Kind::Alloca { .. } | Kind::Fence { .. } | Kind::Br { .. } | Kind::Unreachable => Ok(()),
     }
 }
 
-/// The names in a fork but for that of its wrapper.
-fn add_fork<'a>(
+/// The operands of a fork but its wrapper.
+fn add_without_wrapper<'a>(
+    names: &mut List<&'a [u8]>,
+    operands: &'a [Typed],
+) -> Result<(), OutOfMemory>
+    ensures { OnOk result (names_seen names.new ≡ names_seen names.old ++ flat_map operand_names (without_wrapper operands.now)) }
+{
+    if operands.len() < 7 {
+        return add_operands(names, &operands[..operands.len().min(6)]);
+    }
+    add_operands(names, &operands[..6])?;
+    add_operands(names, &operands[7..])
+}
+
+fn add_call_elsewhere<'a>(
     names: &mut List<&'a [u8]>,
     callee: &'a Value,
     operands: &'a [Typed],
 ) -> Result<(), OutOfMemory>
-    ensures { OnOk result (names_seen names.new ≡ names_seen names.old ++ flat_map value_names (without_wrapper (callee.now ∷ map operand_value operands.now))) }
+    ensures { OnOk result (names_seen names.new ≡ names_seen names.old ++ (value_names callee.now ++ flat_map operand_names (if typing.is_fork callee.now then without_wrapper operands.now else operands.now))) }
 {
-    match operands {
-        [place, number, test, count, bind, function, _, more @ ..] => {
-            add_value(names, callee)?;
-            ..
-        }
+    add_value(names, callee)?;
+    if is_fork(callee) {
+        add_without_wrapper(names, operands)
+    } else {
+        add_operands(names, operands)
+    }
+}
+
+/// The names in an instruction but for that of a fork's wrapper.
+fn add_elsewhere<'a>(names: &mut List<&'a [u8]>, kind: &'a Kind) -> Result<(), OutOfMemory>
+    ensures { OnOk result (names_seen names.new ≡ names_seen names.old ++ kind_names_elsewhere kind.now) }
+{
+    match kind {
+        Kind::Call { callee, args, .. } => add_call_elsewhere(names, callee, args.as_slice()),
+        _ => add_kind(names, kind),
     }
 }

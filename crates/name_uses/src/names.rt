@@ -1,9 +1,9 @@
 //! Names of operands.
-ghost use Rattle.std.specs.Prelude.{◌≡◌, ◌++◌, map, OnOk};
+ghost use Rattle.std.specs.Prelude.{◌≡◌, ◌++◌, OnOk};
 ghost use Rattle.std.specs.List.{flat_map};
 ghost use Rattle.ir_core.specs.Wrappers.{value_names};
 ghost use Rattle.ir_tables.specs.Names.{names_seen};
-ghost use Rattle.name_uses.specs.Names.{edge_names, case_names, operand_names, returned_names};
+ghost use Rattle.shapes.specs.Uses.{edge_names, case_names, operand_names, typed_names};
 
 use ir_core::{Case, Edge, List, OutOfMemory, Typed, Value};
 
@@ -58,11 +58,11 @@ pub fn add_cases<'a>(names: &mut List<&'a [u8]>, cases: &'a [Case]) -> Result<()
     Ok(())
 }
 
-pub fn add_returned<'a>(
+pub fn add_optional<'a>(
     names: &mut List<&'a [u8]>,
     value: &'a Option<Typed>,
 ) -> Result<(), OutOfMemory>
-    ensures { OnOk result (names_seen names.new ≡ names_seen names.old ++ returned_names value.now) }
+    ensures { OnOk result (names_seen names.new ≡ names_seen names.old ++ typed_names value.now) }
 {
     match value {
         None => Ok(()),
