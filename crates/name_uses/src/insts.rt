@@ -1,11 +1,13 @@
 //! Names in instructions.
-ghost use Rattle.std.specs.Prelude.{◌≡◌, ◌++◌, take, drop, OnOk, if◌then◌else◌};
+ghost use Rattle.std.specs.Prelude.{◌≡◌, ◌++◌, [], OnOk, if◌then◌else◌};
 ghost use Rattle.std.specs.List.{flat_map};
 ghost use Rattle.ir_core.specs.Typing as typing;
-ghost use Rattle.ir_core.specs.Wrappers.{value_names, inst_callees, inst_wrappers};
+ghost use Rattle.ir_core.specs.declared.rtl.Rtl.TheVariants.{Parallel};
+ghost use Rattle.ir_core.specs.Wrappers.{value_names, kind_callees, inst_callees, inst_wrappers};
+ghost use Rattle.shapes.specs.Facts.{is_call_of as is_call, operand_of as operand};
 ghost use Rattle.ir_tables.specs.Names.{names_seen};
 ghost use Rattle.shapes.specs.Insts.{insts_seen};
-ghost use Rattle.shapes.specs.Uses.{operand_names, case_names, kind_names, inst_names, kind_names_elsewhere, inst_names_elsewhere, without_wrapper, fork_names};
+ghost use Rattle.shapes.specs.Uses.{operand_names, case_names, typed_names, kind_names, inst_names, kind_names_elsewhere, inst_names_elsewhere, without_wrapper, fork_names};
 
 use crate::names::{add_cases, add_edges, add_operands, add_optional, add_pair, add_value};
 use ir_core::{Case, Inst, Kind, List, OutOfMemory, Rtl, Typed, Value};
@@ -106,11 +108,87 @@ fn add_call_elsewhere<'a>(
 }
 
 /// The names in an instruction but for that of a fork's wrapper.
-fn add_elsewhere<'a>(names: &mut List<&'a [u8]>, kind: &'a Kind) -> Result<(), OutOfMemory>
+fn add_kind_elsewhere<'a>(names: &mut List<&'a [u8]>, kind: &'a Kind) -> Result<(), OutOfMemory>
     ensures { OnOk result (names_seen names.new ≡ names_seen names.old ++ kind_names_elsewhere kind.now) }
 {
     match kind {
         Kind::Call { callee, args, .. } => add_call_elsewhere(names, callee, args.as_slice()),
         _ => add_kind(names, kind),
     }
+}
+
+fn add_callee<'a>(names: &mut List<&'a [u8]>, kind: &'a Kind) -> Result<(), OutOfMemory>
+    ensures { OnOk result (names_seen names.new ≡ names_seen names.old ++ kind_callees kind.now) }
+{
+    match kind {
+        Kind::Call { callee, .. } => add_value(names, callee),
+        _ => Ok(()),
+    }
+}
+
+/// The name that an operand of a fork is.
+fn add_fork_operand<'a>(
+    names: &mut List<&'a [u8]>,
+    inst: &'a Inst,
+    place: usize,
+) -> Result<(), OutOfMemory>
+    ensures { OnOk result (names_seen names.new ≡ names_seen names.old ++ (if is_call Parallel inst.now then typed_names (operand inst.now place) else [])) }
+{
+    if !is_call_of(Rtl::Parallel, inst) {
+        return Ok(());
+    }
+    match operand_of(inst, place) {
+        None => Ok(()),
+        Some(operand) => add_value(names, &operand.value),
+    }
+}
+
+/// The names in the operands of instructions, and the callees of calls.
+pub fn add_used<'a>(names: &mut List<&'a [u8]>, insts: &[&'a Inst]) -> Result<(), OutOfMemory>
+    ensures { OnOk result (names_seen names.new ≡ names_seen names.old ++ flat_map inst_names (insts_seen insts.now)) }
+{
+    for inst in insts {
+        add_kind(names, &inst.kind)?;
+    }
+    Ok(())
+}
+
+/// The names in instructions but for those of forks' wrappers.
+pub fn add_elsewhere<'a>(names: &mut List<&'a [u8]>, insts: &[&'a Inst]) -> Result<(), OutOfMemory>
+    ensures { OnOk result (names_seen names.new ≡ names_seen names.old ++ flat_map inst_names_elsewhere (insts_seen insts.now)) }
+{
+    for inst in insts {
+        add_kind_elsewhere(names, &inst.kind)?;
+    }
+    Ok(())
+}
+
+/// The callees of calls.
+pub fn add_callees<'a>(names: &mut List<&'a [u8]>, insts: &[&'a Inst]) -> Result<(), OutOfMemory>
+    ensures { OnOk result (names_seen names.new ≡ names_seen names.old ++ flat_map inst_callees (insts_seen insts.now)) }
+{
+    for inst in insts {
+        add_callee(names, &inst.kind)?;
+    }
+    Ok(())
+}
+
+/// The region functions of forks.
+pub fn add_forked<'a>(names: &mut List<&'a [u8]>, insts: &[&'a Inst]) -> Result<(), OutOfMemory>
+    ensures { OnOk result (names_seen names.new ≡ names_seen names.old ++ flat_map fork_names (insts_seen insts.now)) }
+{
+    for inst in insts {
+        add_fork_operand(names, inst, 5)?;
+    }
+    Ok(())
+}
+
+/// The wrappers of forks.
+pub fn add_wrappers<'a>(names: &mut List<&'a [u8]>, insts: &[&'a Inst]) -> Result<(), OutOfMemory>
+    ensures { OnOk result (names_seen names.new ≡ names_seen names.old ++ flat_map inst_wrappers (insts_seen insts.now)) }
+{
+    for inst in insts {
+        add_fork_operand(names, inst, 6)?;
+    }
+    Ok(())
 }

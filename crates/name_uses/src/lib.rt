@@ -2,5 +2,9 @@
 //! Each question is answered by one look-up.
 #![tactic(auto)]
 
+mod contents;
 mod insts;
 mod names;
+mod uses;
+
+pub use uses::Uses;
