@@ -1,2 +1,0 @@
-//! Chains of hops.
-#![tactic(auto)]
