@@ -1,7 +1,6 @@
 -- A search over a graph: a row of marks, and the nodes that are marked and wait to be followed.
-use Rattle.std.specs.Prelude.{◌≡◌, ℕ, ◌+◌, ◌≤◌, List, [], ◌∷◌, length, vec_len, vec_capacity, Bool, true, cond, ◌⊎◌, Some, slice_get}
-use Rattle.std.specs.declared.vec.Vec.{Vec}
-use Rattle.std.specs.declared.alloc.Global.{Global}
+use Rattle.std.specs.Prelude.{◌≡◌, ℕ, ◌+◌, ◌≤◌, List, [], ◌∷◌, ◌++◌, length, vec_len, vec_capacity, Bool, true, cond, ◌⊎◌, Option, None, Some, slice_get}
+use Rattle.reach.specs.declared.search.Search.{Search}
 
 -- the node has a mark
 abbrev pub IsMarked : List Bool → ℕ → Type 0
@@ -27,6 +26,15 @@ pub record Spread (marks : List Bool) (waiting nodes : List ℕ) (new_marks : Li
   pub comes : (node : ℕ) → IsAmong new_waiting node → IsAmong waiting node ⊎ IsAmong nodes node
   pub room : unmarked new_marks + length new_waiting ≡ unmarked marks + length waiting
 
+-- the same of the search before and after
+abbrev pub Spreads : Search → List ℕ → Search → Type 0
+Spreads old nodes new = Spread old.marks.items old.waiting.items nodes new.marks.items new.waiting.items
+
 -- there is room for each node that may still come to wait
-abbrev pub HasRoom : Vec Bool Global → Vec ℕ Global → Type 0
-HasRoom marks waiting = unmarked marks.items + vec_len waiting ≤ vec_capacity waiting
+abbrev pub HasRoom : Search → Type 0
+HasRoom search = unmarked search.marks.items + vec_len search.waiting ≤ vec_capacity search.waiting
+
+-- the last of those that waited, if any did, and the rest
+abbrev pub IsTaken : List ℕ → Option ℕ → List ℕ → Type 0
+IsTaken waiting None rest = waiting ≡ []
+IsTaken waiting (Some node) rest = waiting ≡ rest ++ node ∷ []

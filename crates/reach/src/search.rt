@@ -1,7 +1,7 @@
 //! A search: the marks of the nodes that were reached, and those of them that wait to be followed.
-ghost use Rattle.std.specs.Prelude.{◌≡◌, ◌<◌, [], ◌∷◌, ◌++◌, length, replicate, false, IfOk, MatchOption};
+ghost use Rattle.std.specs.Prelude.{◌≡◌, ◌<◌, [], ◌∷◌, length, replicate, false, IfOk};
 ghost use Rattle.std.specs.List.{All};
-ghost use Rattle.reach.specs.Searches.{Spread, HasRoom};
+ghost use Rattle.reach.specs.Searches.{Spreads, HasRoom, IsTaken};
 
 use ir_core::OutOfMemory;
 use std::alloc::Global;
@@ -18,7 +18,7 @@ impl Search {
     pub(crate) fn new(alloc: Global, nodes: usize) -> Result<Search, OutOfMemory>
         ensures marks { IfOk result (λ s. s.marks.items ≡ replicate nodes false) }
         ensures waiting { IfOk result (λ s. s.waiting.items ≡ []) }
-        ensures room { IfOk result (λ s. HasRoom s.marks s.waiting) }
+        ensures room { IfOk result (λ s. HasRoom s) }
     {
         let marks = Vec::from_elem(alloc, false, nodes)?;
         let waiting = Vec::with_capacity(alloc, nodes)?;
@@ -28,9 +28,9 @@ impl Search {
     /// Marks a node; if it had no mark, it waits now.
     fn mark(&mut self, node: usize)
         requires node { node < length self.old.marks.items }
-        requires room { HasRoom self.old.marks self.old.waiting }
-        ensures spread { Spread self.old.marks.items self.old.waiting.items (node ∷ []) self.new.marks.items self.new.waiting.items }
-        ensures room { HasRoom self.new.marks self.new.waiting }
+        requires room { HasRoom self.old }
+        ensures spread { Spreads self.old (node ∷ []) self.new }
+        ensures room { HasRoom self.new }
     {
         if !self.marks[node] {
             self.marks[node] = true;
@@ -42,9 +42,9 @@ impl Search {
     /// Marks these nodes; those that had no mark wait now.
     pub(crate) fn mark_all(&mut self, nodes: &[usize])
         requires nodes { All (λ node. node < length self.old.marks.items) nodes.now }
-        requires room { HasRoom self.old.marks self.old.waiting }
-        ensures spread { Spread self.old.marks.items self.old.waiting.items nodes.now self.new.marks.items self.new.waiting.items }
-        ensures room { HasRoom self.new.marks self.new.waiting }
+        requires room { HasRoom self.old }
+        ensures spread { Spreads self.old nodes.now self.new }
+        ensures room { HasRoom self.new }
     {
         for node in nodes {
             self.mark(*node);
@@ -53,10 +53,10 @@ impl Search {
 
     /// The last of the nodes that wait, which waits no more.
     pub(crate) fn take_waiting(&mut self) -> Option<usize>
-        requires { HasRoom self.old.marks self.old.waiting }
+        requires { HasRoom self.old }
         ensures marks { self.new.marks.items ≡ self.old.marks.items }
-        ensures waiting { MatchOption result (self.old.waiting.items ≡ []) (λ node. self.old.waiting.items ≡ self.new.waiting.items ++ node ∷ []) }
-        ensures room { HasRoom self.new.marks self.new.waiting }
+        ensures waiting { IsTaken self.old.waiting.items result self.new.waiting.items }
+        ensures room { HasRoom self.new }
     {
         self.waiting.pop()
     }

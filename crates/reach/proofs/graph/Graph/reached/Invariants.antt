@@ -6,7 +6,7 @@ use Rattle.reach.proofs.graph.Graph.reached.Given as goal
 abbrev pub invariant-loop-node : goal.invariant-loop-node
 invariant-loop-node l = record {
   search : Searching l.self l.roots l.search.marks.items l.search.waiting.items;
-  room : HasRoom l.search.marks l.search.waiting;
+  room : HasRoom l.search;
 }
 
 abbrev pub decreases-loop-node : goal.decreases-loop-node
