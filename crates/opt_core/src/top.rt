@@ -2,7 +2,7 @@
 ghost use Rattle.std.specs.Prelude.{◌≡◌, ◌≢◌, ◌⊎◌, ◌+◌, ◌≤◌, codes, IfOk, ◌<◌, IfErr, OnOk, OnErr, IfSome, MatchOption, None, Some};
 ghost use Rattle.ir_core.specs.Tokens.{text_limit};
 ghost use Rattle.io_edge.specs.Outside.{Rose, Grows, GrowsByFront};
-ghost use Rattle.opt_core.specs.Answer.{texts, path_of, IsBadWords, IsAnswer, IsTold, HasRisen, IsNotTaken};
+ghost use Rattle.opt_core.specs.Answer.{texts, path_of, IsBadWords, IsAnswer, IsReply, IsTold, HasRisen, IsNotTaken};
 
 use crate::reply::{Reply, reply_to_text};
 use io_edge::{Inputs, ReadFault, Sink, SinkFailed, read_file, write_all};
@@ -98,7 +98,7 @@ pub fn opt_main<I: Inputs, K: Sink, N: Sink>(
     requires { IfSome (path_of (texts words.now)) (λ path. I.served inputs.old path) }
     ensures input { result ≡ 5 → HasRisen (path_of (texts words.now)) (I.faults inputs.old) (I.faults inputs.new) }
     ensures sink { result ≡ 6 → Rose (K.faults out.old) (K.faults out.new) ⊎ Rose (N.faults notes.old) (N.faults notes.new) }
-    ensures told { IsTold (path_of (texts words.now)) (I.held inputs.old) (K.taken out.old) (K.taken out.new) (N.taken notes.old) (N.taken notes.new) result }
+    ensures told { IsTold (IsReply (path_of (texts words.now)) (I.held inputs.old)) (K.taken out.old) (K.taken out.new) (N.taken notes.old) (N.taken notes.new) result }
 {
     let reply = match reply_to_words(alloc, words, inputs) {
         Ok(reply) => reply,
