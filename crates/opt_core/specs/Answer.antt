@@ -1,5 +1,5 @@
 -- What the program answers: to its words, and to the text of a module.
-use Rattle.std.specs.Prelude.{◌≡◌, ◌⊎◌, ℕ, List, [], ◌∷◌, ◌++◌, codes, Option, Some, None, map, string_bytes, IfSome, if◌then◌else◌}
+use Rattle.std.specs.Prelude.{◌≡◌, ◌⊎◌, ℕ, List, [], ◌∷◌, ◌++◌, codes, Option, Some, None, map, string_bytes, if◌then◌else◌}
 use Rattle.std.specs.Str.{bytes_eq}
 use Rattle.std.specs.declared.string.String.{String}
 use Rattle.std.specs.declared.alloc.Global.{Global}
@@ -105,8 +105,3 @@ IsTold IsOfKind out out' notes notes' status =
 abbrev pub HasRisen : Option (List ℕ) → (List ℕ → ℕ) → (List ℕ → ℕ) → Type 0
 HasRisen None before after = ⊥
 HasRisen (Some path) before after = Rose (before path) (after path)
-
--- the bytes under the path, where they are told, spell no module that is taken
-abbrev pub IsNotTaken : Option (List ℕ) → (List ℕ → Option (List ℕ)) → Type 0
-IsNotTaken None held = ⊥
-IsNotTaken (Some path) held = IfSome (held path) (λ text. (m : Module) → Accepts text m → ⊥)

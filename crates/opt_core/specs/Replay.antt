@@ -24,13 +24,13 @@ use Rattle.opt_core.specs.Answer.{Accepts, IsTextRefused, OfText, IsNote, IsBadW
 
 -- the files of a replay
 pub record Paths : Type 0 where
-  pub module : List ℕ
+  pub «module» : List ℕ
   pub launch : List ℕ
   pub schedule : List ℕ
 
 -- the files that the words name: they are replay and three words
 abbrev pub paths_of : List (List ℕ) → Option Paths
-paths_of (command ∷ module ∷ launch ∷ schedule ∷ []) = if bytes_eq command (codes "replay") then Some (record { module = module; launch = launch; schedule = schedule }) else None
+paths_of (command ∷ path ∷ launch ∷ schedule ∷ []) = if bytes_eq command (codes "replay") then Some (record { «module» = path; launch = launch; schedule = schedule }) else None
 paths_of _ = None
 
 -- ---- replies, with m for the module as it was read
@@ -72,7 +72,7 @@ IsReplayAnswer (Some p) held = IsFilesReply held p
 
 -- the text spells a launch of a module that is taken
 abbrev pub IsLaunched : Option (List ℕ) → Option (List ℕ) → Type 0
-IsLaunched module launch = OfText module (λ text. (m : Module) × Accepts text m × OfText launch (λ t. (l : Launch) × (LaunchOf m t ≡ Ok l)))
+IsLaunched file launch = OfText file (λ text. (m : Module) × Accepts text m × OfText launch (λ t. (l : Launch) × (LaunchOf m t ≡ Ok l)))
 
 -- the count of a file has risen, and nothing of the files before it was refused
 abbrev pub HasOneRisen : (List ℕ → Option (List ℕ)) → Paths → (List ℕ → ℕ) → (List ℕ → ℕ) → Type 0
