@@ -1,11 +1,12 @@
 //! A team of machine threads as code, step by step, as the team meaning has it.
 //!
 //! `shared` is what threads share, `events` makes a thread's pending event,
-//! and `team` steps a team.
+//! `start` makes the first state of a team, and `team` steps it.
 #![tactic(auto)]
 
 mod events;
 mod shared;
+mod start;
 mod team;
 
 pub use events::event;

@@ -31,7 +31,7 @@ use Rattle.interp_local.proofs.Returned.{back_of}
 
 -- ---- words put in places, one after another
 
-put_more : (n : ℕ) (words : List Word) (word : Word) (values : List (Option Word)) → length words < n → n ≤ length values → slice_set (put_words n words values) (length words) (Some word) ≡ put_words n (words ++ word ∷ []) values
+pub put_more : (n : ℕ) (words : List Word) (word : Word) (values : List (Option Word)) → length words < n → n ≤ length values → slice_set (put_words n words values) (length words) (Some word) ≡ put_words n (words ++ word ∷ []) values
 put_more zero words word values low room = absurd (omega arith)
 put_more (suc n) [] word [] low room = absurd (omega arith)
 put_more (suc n) [] word (v ∷ vs) low room = ap (λ us. Some word ∷ us) (sym (put_none n vs))
@@ -41,7 +41,7 @@ put_more (suc n) [] word (v ∷ vs) low room = ap (λ us. Some word ∷ us) (sym
 put_more (suc n) (w ∷ ws) word [] low room = absurd (omega arith)
 put_more (suc n) (w ∷ ws) word (v ∷ vs) low room = ap (λ us. Some w ∷ us) (put_more n ws word vs (omega arith) (omega arith))
 
-put_past : (n : ℕ) (words : List Word) (word : Word) (values : List (Option Word)) → n ≤ length words → put_words n (words ++ word ∷ []) values ≡ put_words n words values
+pub put_past : (n : ℕ) (words : List Word) (word : Word) (values : List (Option Word)) → n ≤ length words → put_words n (words ++ word ∷ []) values ≡ put_words n words values
 put_past zero [] word values past = refl
 put_past zero (w ∷ ws) word values past = refl
 put_past (suc n) [] word values past = absurd (omega arith)
@@ -114,27 +114,14 @@ module _ (m : Module) (s : ThreadData) (args : List Typed) (params : ℕ) (old v
     count_more : (word : Word) → length (b.front ++ word ∷ []) ≡ n + 1
     count_more word = let a = length-append b.front (word ∷ []) in let same = b.count in omega arith
 
-    pub binds_more : (word : Word) (new : List (Option Word)) → value_word m (registers m s) v.value ≡ Ok word → params ≤ length old → at < params → new ≡ slice_set values at (Some word) → Binds m s args params old new (n + 1) (at + 1)
-    binds_more word new e room low is =
-        let place : at ≡ length b.front = b.place ∙ sym b.count in
-        record {
-          front = b.front ++ word ∷ [];
-          count = count_more word;
-          place = let same = b.place in omega arith;
-          words = words_more word e;
-          values_are = is ∙ (λ i. slice_set (b.values_are i) (place i) (Some word)) ∙ put_more params b.front word old (omega arith) room;
-        }
-
-    pub binds_past : (word : Word) → value_word m (registers m s) v.value ≡ Ok word → params ≤ at → Binds m s args params old values (n + 1) (at + 1)
-    binds_past word e past =
-        let place : at ≡ length b.front = b.place ∙ sym b.count in
-        record {
-          front = b.front ++ word ∷ [];
-          count = count_more word;
-          place = let same = b.place in omega arith;
-          words = words_more word e;
-          values_are = b.values_are ∙ sym (put_past params b.front word old (omega arith));
-        }
+    pub binds_more : (word : Word) (new : List (Option Word)) → value_word m (registers m s) v.value ≡ Ok word → new ≡ put_words params (b.front ++ word ∷ []) old → Binds m s args params old new (n + 1) (at + 1)
+    binds_more word new e is = record {
+      front = b.front ++ word ∷ [];
+      count = count_more word;
+      place = let same = b.place in omega arith;
+      words = words_more word e;
+      values_are = is;
+    }
 
 -- ---- the registers that they are
 
@@ -176,14 +163,14 @@ values_are (p ∷ ps) (w ∷ ws) names y =
     first_value p.name y (map param_name ps ++ names) w (put_words (length ps) ws (replicate (length (map param_name ps ++ names)) None)) (bound ps ws y) (bytes_eq p.name y) refl (values_are ps ws names y)
     ∙ ap (λ b. cond b (Some w) (bound ps ws y)) (sym (flipped p.name y (bytes_eq p.name y) refl))
 
-function_registers : (o : Option Function) (f : Function) (words : List Word) → o ≡ Some f → registers_seen (register_names_of o) (put_words (length f.params) words (replicate (length (register_names_of o)) None)) ≡ bound f.params words
+pub function_registers : (o : Option Function) (f : Function) (words : List Word) → o ≡ Some f → registers_seen (register_names_of o) (put_words (length f.params) words (replicate (length (register_names_of o)) None)) ≡ bound f.params words
 function_registers None f words e = let g : ⊥ = cc in absurd g
 function_registers (Some g) f words e = subst (λ (h : Function). registers_seen (register_names_of (Some g)) (put_words (length h.params) words (replicate (length (register_names_of (Some g))) None)) ≡ bound h.params words) (some_is g f e) (λ i. λ y. values_are g.params words (flat_map block_results g.blocks) y i)
   where
     some_is : (g f : Function) → Some g ≡ Some f → g ≡ f
     some_is g f e = some_injective e
 
-params_few : (o : Option Function) (f : Function) → o ≡ Some f → length f.params ≤ length (register_names_of o)
+pub params_few : (o : Option Function) (f : Function) → o ≡ Some f → length f.params ≤ length (register_names_of o)
 params_few None f e = let g : ⊥ = cc in absurd g
 params_few (Some g) f e =
     let same = ap (λ (h : Function). length h.params) (some_injective e) in

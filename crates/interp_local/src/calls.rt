@@ -1,8 +1,9 @@
 //! Calls of functions with blocks, and new blocks of the stack: the steps that take memory.
-ghost use Rattle.std.specs.Prelude.{◌≡◌, ℕ, ◌+◌, ◌<◌, ◌≤◌, ◌^◌, List as Listed, ◌∷◌, Option, Some, None, length, replicate, IfOk};
+ghost use Rattle.std.specs.Prelude.{◌≡◌, ℕ, ◌+◌, ◌<◌, ◌≤◌, ◌^◌, List as Listed, [], ◌∷◌, ◌++◌, Option, Some, None, length, replicate, IfOk};
 ghost use Rattle.std.specs.Option.{option_copied};
 ghost use Rattle.ir_core.specs.declared.module.Module.{Module};
 ghost use Rattle.ir_core.specs.Places.{Name as SpecName};
+ghost use Rattle.mem_model.specs.declared.memory.Word.{Word as SpecWord};
 ghost use Rattle.mem_model.specs.Answers.{only_trap};
 ghost use Rattle.mem_model.specs.Memory.{block_limit};
 ghost use Rattle.mem_model.specs.Thread.{Frame};
@@ -12,7 +13,7 @@ ghost use Rattle.thread_state.specs.Seen.{thread_seen, IsThread};
 ghost use Rattle.thread_state.specs.Moves.{index_of};
 ghost use Rattle.interp_local.specs.Operands.{AreFew, registers};
 ghost use Rattle.interp_local.specs.Actions as spec;
-ghost use Rattle.interp_local.specs.Calls.{IsBody, AreBound};
+ghost use Rattle.interp_local.specs.Calls.{IsBody, AreBound, put_words};
 ghost use Rattle.interp_local.specs.Steps.{IsTried, Knows, inst_of};
 ghost use Rattle.interp_local.specs.Runs.{Tells};
 
@@ -57,6 +58,16 @@ fn look_words(m: &Indexed, s: &ThreadState, args: &[Typed]) -> Result<(), Trap>
     Ok(())
 }
 
+/// Puts the word of a call's operand in its place of the registers, where it is one of so many parameters.
+pub fn put_word(values: &mut List<Option<Word>>, params: usize, at: usize, word: Word)
+    requires { params ≤ length values.old }
+    ensures { (words : Listed SpecWord) (first : Listed (Option SpecWord)) → at ≡ length words → values.old ≡ put_words params words first → values.new ≡ put_words params (words ++ word ∷ []) first }
+{
+    if at < params {
+        values.set(at, Some(word));
+    }
+}
+
 /// Puts the words of operands in the first places of a call's registers, as many as it has parameters.
 fn bind(
     m: &Indexed,
@@ -72,23 +83,29 @@ fn bind(
     let mut at = 0;
     for arg in args {
         let word = value_word(m, s, &arg.value)?;
-        if at < params {
-            values.set(at, Some(word));
-        }
+        put_word(values, params, at, word);
         at += 1;
     }
     Ok(())
 }
 
-/// Registers without values.
-fn no_values(alloc: Global, count: usize) -> Result<List<Option<Word>>, OutOfMemory>
+/// So many registers without values.
+///
+/// # Errors
+///
+/// For want of memory.
+pub fn no_values(alloc: Global, count: usize) -> Result<List<Option<Word>>, OutOfMemory>
     ensures { IfOk result (λ values. values ≡ replicate count None) }
 {
     Ok(List::from_vec(vec![in alloc; None; count]?))
 }
 
 /// Room for so many words.
-fn room_for(alloc: Global, count: usize) -> Result<List<Word>, OutOfMemory>
+///
+/// # Errors
+///
+/// For want of memory.
+pub fn room_for(alloc: Global, count: usize) -> Result<List<Word>, OutOfMemory>
     ensures { IfOk result (λ room. length room ≡ count) }
 {
     Ok(List::from_vec(vec![in alloc; Word::Int(0); count]?))

@@ -14,6 +14,7 @@ mod run;
 mod steps;
 
 pub use actions::{Action, Change, decide};
+pub use calls::{no_values, put_word, room_for};
 pub use first_form::first_form_is_sized;
 pub use run::{Pause, Ran, local_run, look};
 pub use steps::{Own, inst_at, next, result_place};

@@ -1,17 +1,15 @@
-use Rattle.std.proofs.Common.{◌≡◌, ◌<◌, ◌≤◌, ◌+◌, length, Some, Ok, refl, sym, ap, ◌∙◌, subst, arith, rules}
+use Rattle.std.proofs.Common.{◌≡◌, ◌≤◌, ◌+◌, length, Some, Ok, refl, sym, ap, ◌∙◌, arith, rules}
 use Rattle.std.specs.Prelude.{slice_get}
 use Rattle.std.proofs.lemmas.Option.{slice_get_read}
 use Rattle.mem_model.specs.Values.{value_word}
 use Rattle.interp_local.specs.Operands.{registers}
-use Rattle.interp_local.proofs.Entered.{Binds, put_length, binds_more, binds_past}
+use Rattle.interp_local.proofs.Entered.{put_length, binds_more}
 use Rattle.interp_local.proofs.calls.bind.Goals as goal
-use Rattle.interp_local.proofs.calls.bind.Goals.{then-at-params, else-at-params}
 
-pub set-requires : goal.set-requires
-set-requires c =
+pub put_word-requires : goal.put_word-requires
+put_word-requires c =
     let b = c.loop-arg.invariant in
     let size = ap length b.values_are ∙ put_length c.args.params b.front c.args.values.now in
-    let low = c.if-at-params.true in
     let room = c.requires.room in
     omega arith
 
@@ -25,14 +23,8 @@ loop-arg-preserved c =
     let values = c.loop-arg.values in
     let n = c.loop-arg.arg-index in
     let at = c.loop-arg.at in
+    let b = c.loop-arg.invariant in
     let v = c.arg-item.result in
     let there : slice_get args n ≡ Some v = slice_get_read args (length args) n v refl (search rules) (search rules) in
     let word : value_word m (registers m s) v.value ≡ Ok c.in_ok-word.word = sym c.value_word.ensures ∙ c.in_ok-word.was in
-    elim c.if-at-params.branch [
-      | then-at-params w ↦
-          let low : at < params = w.if-at-params.true in
-          subst (λ z. Binds m s args params old z (n + 1) (at + 1)) (sym w.values-is) (binds_more m s args params old values n at c.loop-arg.invariant v there c.in_ok-word.word w.set.new.self word c.requires.room low w.set.ensures)
-      | else-at-params w ↦
-          let past : params ≤ at = let not = w.if-at-params.false in omega arith in
-          subst (λ z. Binds m s args params old z (n + 1) (at + 1)) (sym w.values-is) (binds_past m s args params old values n at c.loop-arg.invariant v there c.in_ok-word.word word past)
-    ]
+    binds_more m s args params old values n at b v there c.in_ok-word.word c.put_word.new.values word (c.put_word.ensures b.front old (b.place ∙ sym b.count) b.values_are)
