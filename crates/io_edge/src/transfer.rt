@@ -3,6 +3,7 @@ ghost use Rattle.std.specs.Prelude.{◌≡◌, ◌≢◌, ℕ, List, ◌+◌, �
 ghost use Rattle.io_edge.specs.Outside.{Grows, GrowsByFront, HasCause, ReadsMore, Rose};
 
 use crate::outside::{InputFailed, Inputs, Sink, SinkFailed};
+use ir_core::OutOfMemory;
 use std::alloc::{AllocError, Global};
 use thiserror::Error;
 
@@ -33,6 +34,16 @@ impl From<AllocError> for ReadFault {
     ghost from_gives = { λ _ fault. fault ≡ Memory };
 
     fn from(_: AllocError) -> ReadFault {
+        ReadFault::Memory
+    }
+}
+
+impl From<OutOfMemory> for ReadFault {
+    ghost use Rattle.io_edge.specs.declared.transfer.ReadFault.TheVariants.{Memory};
+
+    ghost from_gives = { λ _ fault. fault ≡ Memory };
+
+    fn from(_: OutOfMemory) -> ReadFault {
         ReadFault::Memory
     }
 }

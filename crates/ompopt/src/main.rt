@@ -1,10 +1,10 @@
-//! The program: the top call over the files that its words name and the standard streams.
+//! The program: the top calls over the files that its words name and the standard streams.
 #![tactic(auto)]
 
 ghost use Rattle.std.specs.Prelude.{◌≡◌};
 
 use io_edge::{FileInputs, Sink, StreamSink};
-use opt_core::opt_main;
+use opt_core::{opt_main, replay_main};
 use std::alloc::Global;
 use std::env;
 use std::process::ExitCode;
@@ -21,7 +21,14 @@ fn words_of(rt: &HostRuntime) -> Option<Vec<String>> {
     Some(words)
 }
 
-// The top call over files by name.
+fn is_replay(words: &[String]) -> bool {
+    match words {
+        [command, ..] => command.as_str() == "replay",
+        [] => false,
+    }
+}
+
+// The top call for the words, over files by name.
 fn answer<R: Files, K: Sink, N: Sink>(
     alloc: Global,
     inputs: &mut FileInputs<'_, R>,
@@ -31,7 +38,11 @@ fn answer<R: Files, K: Sink, N: Sink>(
 ) -> u8
     requires { inputs.old.words.now ≡ words.now }
 {
-    opt_main(alloc, words, inputs, out, notes)
+    if is_replay(words) {
+        replay_main(alloc, words, inputs, out, notes)
+    } else {
+        opt_main(alloc, words, inputs, out, notes)
+    }
 }
 
 fn main(rt: HostRuntime) -> ExitCode {

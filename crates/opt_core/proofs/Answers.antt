@@ -1,5 +1,5 @@
 -- Replies, and what is written of them.
-use Rattle.std.proofs.Common.{◌≡◌, ◌⊎◌, ℕ, ◌<◌, List, [], ◌++◌, Option, Some, None, Result, Ok, Err, IfOk, IfErr, refl, sym, ap, subst, arith, inl, inr, codes}
+use Rattle.std.proofs.Common.{◌≡◌, ◌⊎◌, ℕ, ◌<◌, ◌≤◌, List, [], ◌++◌, Option, Some, None, Result, Ok, Err, IfOk, IfErr, refl, sym, ap, ◌∙◌, subst, arith, inl, inr, codes}
 use Rattle.std.proofs.lemmas.List.{append-nil}
 use Rattle.ir_core.specs.declared.module.Module.{Module}
 use Rattle.ir_core.specs.declared.answers.Or.{Or}
@@ -18,7 +18,7 @@ use Rattle.ir_read.proofs.Texts.{one_text, text_refused}
 use Rattle.ir_check.specs.Refusal.{IsRefused, IsCheckRefusal}
 use Rattle.opt_core.specs.declared.reply.Reply.{Reply}
 use Rattle.io_edge.specs.Outside.{Grows, GrowsByFront}
-use Rattle.opt_core.specs.Answer.{Accepts, IsNotAccepted, IsTextReply, IsFailure, HasRisen, IsWritten}
+use Rattle.opt_core.specs.Answer.{Accepts, IsNotAccepted, IsTextReply, IsNote, IsFailure, HasRisen, IsWritten}
 
 pub not_read : (text : List ℕ) (e : Or Refusal) → IsReadRefusal text e → IsNotAccepted text e
 not_read text (Refused r) h = (inl h, λ m accepts. text_refused text r h m accepts.0)
@@ -50,8 +50,8 @@ pub own_status : (m : Module) (result : Result Reply OutOfMemory) → IfOk resul
 own_status m (Ok r) h = let zero = h.0 in omega arith
 own_status m (Err e) h = tt
 
-pub is_refused : (text : List ℕ) (r : Refusal) (result : Result Reply OutOfMemory) → IsNotAccepted text (Refused r) → IfOk result (λ x. (x.status ≡ 3) × (x.out ≡ []) × (x.notes ≡ refusal_text r ++ codes "\n")) → IfOk result (λ x. IsTextReply text x.status x.out x.notes)
-is_refused text r (Ok x) refused h = inr (r, refused.0, refused.1, h.0, h.1, h.2)
+pub is_refused : (text : List ℕ) (r : Refusal) (result : Result Reply OutOfMemory) → IsNotAccepted text (Refused r) → IfOk result (λ x. IsNote 3 (refusal_text r ++ codes "\n") x.status x.out x.notes) → IfOk result (λ x. IsTextReply text x.status x.out x.notes)
+is_refused text r (Ok x) refused h = inr (r, refused.0, refused.1, h)
 is_refused text r (Err e) refused h = tt
 
 -- ---- what is written
@@ -70,7 +70,14 @@ pub is_failure : (path : Option (List ℕ)) (before after : List ℕ → ℕ) (n
 is_failure None before after n e h = absurd h
 is_failure (Some path) before after n e h = (refl, refl, e)
 
--- an answer's own status is none of a failure
-pub not_failed : {Rose : Type 0} {A B X : Type 0} (status result : ℕ) → status < 5 → ((result ≡ status) × A) ⊎ ((result ≡ 6) × B × Rose) → result ≡ 5 → X
-not_failed status result low (inl (same, a)) five = absurd (omega arith)
-not_failed status result low (inr (six, b, rose)) five = absurd (omega arith)
+-- a reply that is written has its own status, or a sink failed
+pub not_five : {R X : Type 0} (status result : ℕ) → (status ≡ 5 → ⊥) → (result ≡ status) ⊎ ((result ≡ 6) × R) → result ≡ 5 → X
+not_five status result own (inl same) five = absurd (own (sym same ∙ five))
+not_five status result own (inr (six, rose)) five = absurd (omega arith)
+
+pub six_rose : {R : Type 0} (status result : ℕ) → (status ≡ 6 → ⊥) → (result ≡ status) ⊎ ((result ≡ 6) × R) → result ≡ 6 → R
+six_rose status result own (inl same) six = absurd (own (sym same ∙ six))
+six_rose status result own (inr (now, rose)) six = rose
+
+pub low_is_none : (n status : ℕ) → 5 ≤ n → status < 5 → status ≡ n → ⊥
+low_is_none n status high low same = omega arith

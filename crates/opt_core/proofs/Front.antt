@@ -1,5 +1,5 @@
 -- A text's front up to the limit and one byte spells what the text spells.
-use Rattle.std.proofs.Common.{◌≡◌, ◌⊎◌, ℕ, ◌+◌, ◌<◌, ◌≤◌, min, List, [], ◌∷◌, ◌++◌, length, take, nat_lt, Bool, Option, Some, None, IfSome, refl, sym, ap, ◌∙◌, subst, arith, if◌then◌else◌, inl, inr, length-take}
+use Rattle.std.proofs.Common.{◌≡◌, ◌⊎◌, ℕ, ◌+◌, ◌<◌, ◌≤◌, min, List, [], ◌∷◌, ◌++◌, length, take, nat_lt, Bool, Option, Some, None, IfSome, sym, ap, ◌∙◌, subst, arith, if◌then◌else◌, inl, inr, length-take}
 use Rattle.std.proofs.lemmas.List.{take-take}
 use Rattle.std.proofs.lemmas.Bool.{lt-ltb, le-ltb, cases_lt}
 use Rattle.ir_core.specs.declared.module.Module.{Module}
@@ -8,7 +8,7 @@ use Rattle.ir_core.specs.declared.refusal.Refusal.{Refusal}
 use Rattle.ir_core.specs.Spell.{IsFirstRefused}
 use Rattle.ir_core.specs.Language.{module_to_end, Reads}
 use Rattle.ir_core.specs.TextRefusals.{IsTextRefusal, IsRefusalAt}
-use Rattle.opt_core.specs.Answer.{Accepts, IsRefusal, IsTextReply, IsFileReply}
+use Rattle.opt_core.specs.Answer.{Accepts, IsRefusal, IsTextRefused, IsTextReply, OfText, IsFileReply}
 
 abbrev read_limit : ℕ
 read_limit = text_limit + 1
@@ -64,11 +64,18 @@ accepts_front text m (reads, form) = (reads_same text (take read_limit text) m (
 pub accepts_whole : (text : List ℕ) (m : Module) → Accepts (take read_limit text) m → Accepts text m
 accepts_whole text m (reads, form) = (reads_same (take read_limit text) text m (alike text) reads, form)
 
-pub reply_whole : (text : List ℕ) (status : ℕ) (out notes : List ℕ) → IsTextReply (take read_limit text) status out notes → IsTextReply text status out notes
-reply_whole text status out notes (inl (m, accepts, refines, s, o, n)) = inl (m, accepts_whole text m accepts, refines, s, o, n)
-reply_whole text status out notes (inr (r, refusal, none, s, o, n)) = inr (r, refusal_same (take read_limit text) text r (alike text) refusal, (λ m accepts. none m (accepts_front text m accepts)), s, o, n)
+pub refused_whole : (text : List ℕ) (status : ℕ) (out notes : List ℕ) → IsTextRefused (take read_limit text) status out notes → IsTextRefused text status out notes
+refused_whole text status out notes (r, refusal, none, note) = (r, refusal_same (take read_limit text) text r (alike text) refusal, (λ m accepts. none m (accepts_front text m accepts)), note)
+
+pub reply_whole : (status : ℕ) (out notes : List ℕ) (text : List ℕ) → IsTextReply (take read_limit text) status out notes → IsTextReply text status out notes
+reply_whole status out notes text (inl (m, accepts, refines, s, o, n)) = inl (m, accepts_whole text m accepts, refines, s, o, n)
+reply_whole status out notes text (inr refused) = inr (refused_whole text status out notes refused)
+
+-- what holds of the bytes read of a file holds of its text
+pub of_read : (Holds : List ℕ → Type 0) (limit : ℕ) (held : Option (List ℕ)) (bytes : List ℕ) → ((text : List ℕ) → Holds (take limit text) → Holds text) → IfSome held (λ content. bytes ≡ take limit content) → Holds bytes → OfText held Holds
+of_read Holds limit None bytes whole e h = (bytes, h)
+of_read Holds limit (Some content) bytes whole e h = whole content (subst Holds e h)
 
 -- what is replied to the bytes read is the reply to the file
 pub file_reply : (held : Option (List ℕ)) (bytes : List ℕ) (status : ℕ) (out notes : List ℕ) → IfSome held (λ content. bytes ≡ take read_limit content) → IsTextReply bytes status out notes → IsFileReply held status out notes
-file_reply None bytes status out notes e reply = (bytes, reply)
-file_reply (Some content) bytes status out notes e reply = reply_whole content status out notes (subst (λ b. IsTextReply b status out notes) e reply)
+file_reply held bytes status out notes = of_read (λ text. IsTextReply text status out notes) read_limit held bytes (reply_whole status out notes)

@@ -1,2 +1,4 @@
 pub mod Answers
 pub mod Front
+pub mod ReplayAnswers
+pub mod ReplayFiles

@@ -1,5 +1,5 @@
 -- What the program answers: to its words, and to the text of a module.
-use Rattle.std.specs.Prelude.{◌≡◌, ◌⊎◌, ℕ, List, [], ◌∷◌, ◌++◌, codes, Option, Some, None, map, string_bytes, IfSome, if◌then◌else◌}
+use Rattle.std.specs.Prelude.{◌≡◌, ◌⊎◌, ℕ, List, [], ◌∷◌, ◌++◌, codes, Option, Some, None, map, string_bytes, if◌then◌else◌}
 use Rattle.std.specs.Str.{bytes_eq}
 use Rattle.std.specs.declared.string.String.{String}
 use Rattle.std.specs.declared.alloc.Global.{Global}
@@ -29,14 +29,18 @@ path_of _ = None
 
 -- ---- replies: a status, and what is to be written on the output and on the notes
 
+-- a status with its line on the notes, and nothing on the output
+abbrev pub IsNote : ℕ → List ℕ → ℕ → List ℕ → List ℕ → Type 0
+IsNote wanted line status out notes = (status ≡ wanted) × (out ≡ []) × (notes ≡ line)
+
 abbrev pub IsBadWords : ℕ → List ℕ → List ℕ → Type 0
-IsBadWords status out notes = (status ≡ 2) × (out ≡ []) × (notes ≡ codes "ompopt: bad command line\n")
+IsBadWords = IsNote 2 (codes "ompopt: bad command line\n")
 
 abbrev pub IsInputFailed : ℕ → List ℕ → List ℕ → Type 0
-IsInputFailed status out notes = (status ≡ 5) × (out ≡ []) × (notes ≡ codes "ompopt: input failed\n")
+IsInputFailed = IsNote 5 (codes "ompopt: input failed\n")
 
 abbrev pub IsOutOfMemory : ℕ → List ℕ → List ℕ → Type 0
-IsOutOfMemory status out notes = (status ≡ 7) × (out ≡ []) × (notes ≡ codes "ompopt: out of memory\n")
+IsOutOfMemory = IsNote 7 (codes "ompopt: out of memory\n")
 
 -- the text spells this module, of which nothing is refused
 abbrev pub Accepts : List ℕ → Module → Type 0
@@ -56,15 +60,18 @@ abbrev pub IsOptimised : List ℕ → ℕ → List ℕ → List ℕ → Type 0
 IsOptimised text status out notes = (m : Module) × Accepts text m × RefinesSource m (machine_off m) × (status ≡ 0) × (out ≡ Text (machine_off m)) × (notes ≡ remarks_text (Remarks m))
 
 abbrev pub IsTextRefused : List ℕ → ℕ → List ℕ → List ℕ → Type 0
-IsTextRefused text status out notes = (r : Refusal) × IsRefusal text r × ((m : Module) → Accepts text m → ⊥) × (status ≡ 3) × (out ≡ []) × (notes ≡ refusal_text r ++ codes "\n")
+IsTextRefused text status out notes = (r : Refusal) × IsRefusal text r × ((m : Module) → Accepts text m → ⊥) × IsNote 3 (refusal_text r ++ codes "\n") status out notes
 
 abbrev pub IsTextReply : List ℕ → ℕ → List ℕ → List ℕ → Type 0
 IsTextReply text status out notes = IsOptimised text status out notes ⊎ IsTextRefused text status out notes
 
--- the reply to a file, of which the text is told or not
+-- it holds of the text of a file; where that isn't told, of some text
+abbrev pub OfText : Option (List ℕ) → (List ℕ → Type 0) → Type 0
+OfText None Holds = (text : List ℕ) × Holds text
+OfText (Some text) Holds = Holds text
+
 abbrev pub IsFileReply : Option (List ℕ) → ℕ → List ℕ → List ℕ → Type 0
-IsFileReply None status out notes = (text : List ℕ) × IsTextReply text status out notes
-IsFileReply (Some text) status out notes = IsTextReply text status out notes
+IsFileReply held status out notes = OfText held (λ text. IsTextReply text status out notes)
 
 -- the answer to the words
 abbrev pub IsAnswer : Option (List ℕ) → (List ℕ → Option (List ℕ)) → ℕ → List ℕ → List ℕ → Type 0
@@ -89,17 +96,12 @@ IsWritten status replied o n out out' notes notes' =
     ⊎ ((status ≡ 6) × GrowsByFront out out' o × Grows notes notes' [])
     ⊎ ((status ≡ 6) × Grows out out' o × GrowsByFront notes notes' n)
 
--- what the sinks have taken at this status
-abbrev pub IsTold : Option (List ℕ) → (List ℕ → Option (List ℕ)) → (out out' notes notes' : Option (List ℕ)) → ℕ → Type 0
-IsTold path held out out' notes notes' status =
-    (replied : ℕ) × (o n : List ℕ) × IsReply path held replied o n × IsWritten status replied o n out out' notes notes'
+-- what the sinks have taken at this status, of a reply of this kind
+abbrev pub IsTold : (ℕ → List ℕ → List ℕ → Type 0) → (out out' notes notes' : Option (List ℕ)) → ℕ → Type 0
+IsTold IsOfKind out out' notes notes' status =
+    (replied : ℕ) × (o n : List ℕ) × IsOfKind replied o n × IsWritten status replied o n out out' notes notes'
 
 -- the count of the file that the words name has risen
 abbrev pub HasRisen : Option (List ℕ) → (List ℕ → ℕ) → (List ℕ → ℕ) → Type 0
 HasRisen None before after = ⊥
 HasRisen (Some path) before after = Rose (before path) (after path)
-
--- the bytes under the path, where they are told, spell no module that is taken
-abbrev pub IsNotTaken : Option (List ℕ) → (List ℕ → Option (List ℕ)) → Type 0
-IsNotTaken None held = ⊥
-IsNotTaken (Some path) held = IfSome (held path) (λ text. (m : Module) → Accepts text m → ⊥)

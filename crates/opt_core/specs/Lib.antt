@@ -1,2 +1,4 @@
 pub mod Answer
 pub mod Optimised
+pub mod Replay
+pub mod ReplayStages

@@ -1,12 +1,15 @@
 //! Replies: a status, and what is to be written on the output and on the notes.
-ghost use Rattle.std.specs.Prelude.{◌≡◌, ◌++◌, [], ◌<◌, codes, IfOk, IfErr};
+ghost use Rattle.std.specs.Prelude.{◌≡◌, ◌⊎◌, ◌+◌, ◌++◌, [], ◌<◌, ◌≤◌, codes, IfOk, IfErr};
 ghost use Rattle.ir_core.specs.Text.{Text};
+ghost use Rattle.ir_core.specs.Tokens.{text_limit};
 ghost use Rattle.ir_core.specs.MachineOff.{machine_off, Remarks};
 ghost use Rattle.ir_core.specs.Notes.{refusal_text, remarks_text};
-ghost use Rattle.opt_core.specs.Answer.{Accepts, IsNotAccepted, IsTextReply};
+ghost use Rattle.io_edge.specs.Outside.{Rose, Grows, GrowsByFront};
+ghost use Rattle.opt_core.specs.Answer.{Accepts, IsNotAccepted, IsTextReply, IsNote, IsBadWords, IsWritten};
 
 use crate::optimiser::optimise;
 use crate::remarks::print_remarks;
+use io_edge::{ReadFault, Sink, SinkFailed, write_all};
 use ir_check::check;
 use ir_core::{List, Or, OutOfMemory, Refusal};
 use ir_print::print_module;
@@ -22,6 +25,26 @@ pub struct Reply {
     pub notes: List<u8>,
 }
 
+/// A reply that is a line on the notes alone.
+pub fn note_reply(alloc: Global, status: u8, line: List<u8>) -> Reply
+    ensures { IsNote status line result.status result.out result.notes }
+{
+    Reply {
+        status,
+        out: List::new(alloc),
+        notes: line,
+    }
+}
+
+/// The reply to words that aren't read.
+pub fn bad_words(alloc: Global) -> Result<Reply, ReadFault>
+    ensures reply { IfOk result (λ r. IsBadWords r.status r.out r.notes) }
+    ensures memory { IfErr result (λ e. e ≡ ReadFault.Memory) }
+{
+    let line = List::from_slice(alloc, b"ompopt: bad command line\n")?;
+    Ok(note_reply(alloc, 2, line))
+}
+
 fn refusal_line(alloc: Global, refusal: &Refusal) -> Result<List<u8>, OutOfMemory>
     ensures { IfOk result (λ line. line ≡ refusal_text refusal.now ++ codes "\n") }
 {
@@ -32,14 +55,11 @@ fn refusal_line(alloc: Global, refusal: &Refusal) -> Result<List<u8>, OutOfMemor
     Ok(List::from_vec(line))
 }
 
-fn refused(alloc: Global, refusal: &Refusal) -> Result<Reply, OutOfMemory>
-    ensures { IfOk result (λ r. (r.status ≡ 3) × (r.out ≡ []) × (r.notes ≡ refusal_text refusal.now ++ codes "\n")) }
+/// The reply to a module that is refused.
+pub fn refused(alloc: Global, refusal: &Refusal) -> Result<Reply, OutOfMemory>
+    ensures { IfOk result (λ r. IsNote 3 (refusal_text refusal.now ++ codes "\n") r.status r.out r.notes) }
 {
-    Ok(Reply {
-        status: 3,
-        out: List::new(alloc),
-        notes: refusal_line(alloc, refusal)?,
-    })
+    Ok(note_reply(alloc, 3, refusal_line(alloc, refusal)?))
 }
 
 fn optimised(alloc: Global, m: &Checked) -> Result<Reply, OutOfMemory>
@@ -53,8 +73,17 @@ fn optimised(alloc: Global, m: &Checked) -> Result<Reply, OutOfMemory>
     })
 }
 
-// The module that the text spells, checked.
-fn read_checked(alloc: Global, text: &[u8]) -> Result<Checked, Or<Refusal>>
+/// How many bytes of a module's text are read: those that a text may have, and one more, so that a longer one shows.
+#[tactic(auto, unfolding(ir_core::specs::Tokens::text_limit))]
+pub fn text_read_limit() -> usize
+    ensures value { result ≡ text_limit + 1 }
+    ensures near { result ≤ 33554433 }
+{
+    4_194_305
+}
+
+/// The module that the text spells, checked.
+pub fn read_checked(alloc: Global, text: &[u8]) -> Result<Checked, Or<Refusal>>
     ensures taken { IfOk result (λ m. Accepts text.now m) }
     ensures refused { IfErr result (λ e. IsNotAccepted text.now e) }
 {
@@ -71,5 +100,26 @@ pub fn reply_to_text(alloc: Global, text: &[u8]) -> Result<Reply, OutOfMemory>
         Ok(m) => optimised(alloc, &m),
         Err(Or::Refused(refusal)) => refused(alloc, &refusal),
         Err(Or::Memory) => Err(OutOfMemory),
+    }
+}
+
+/// Writes a note, and gives the status where it was written whole, else 6.
+pub fn note_of<N: Sink>(notes: &mut N, note: &[u8], status: u8) -> u8
+    ensures written { ((result ≡ status) × Grows (N.taken notes.old) (N.taken notes.new) note.now) ⊎ ((result ≡ 6) × GrowsByFront (N.taken notes.old) (N.taken notes.new) note.now × Rose (N.faults notes.old) (N.faults notes.new)) }
+{
+    match write_all(notes, note) {
+        Ok(()) => status,
+        Err(SinkFailed) => 6,
+    }
+}
+
+/// Writes a reply, first its output and then its notes, and gives its status where all was written, else 6.
+pub fn write_reply<K: Sink, N: Sink>(out: &mut K, notes: &mut N, reply: &Reply) -> u8
+    ensures written { IsWritten result reply.now.status reply.now.out reply.now.notes (K.taken out.old) (K.taken out.new) (N.taken notes.old) (N.taken notes.new) }
+    ensures sink { (result ≡ reply.now.status) ⊎ ((result ≡ 6) × (Rose (K.faults out.old) (K.faults out.new) ⊎ Rose (N.faults notes.old) (N.faults notes.new))) }
+{
+    match write_all(out, reply.out.as_slice()) {
+        Ok(()) => note_of(notes, reply.notes.as_slice(), reply.status),
+        Err(SinkFailed) => 6,
     }
 }

@@ -1,12 +1,11 @@
-//! The top call: what the program answers to its words, over the inputs and into the sinks.
-ghost use Rattle.std.specs.Prelude.{◌≡◌, ◌≢◌, ◌⊎◌, ◌+◌, ◌≤◌, codes, IfOk, ◌<◌, IfErr, OnOk, OnErr, IfSome, MatchOption, None, Some};
-ghost use Rattle.ir_core.specs.Tokens.{text_limit};
-ghost use Rattle.io_edge.specs.Outside.{Rose, Grows, GrowsByFront};
-ghost use Rattle.opt_core.specs.Answer.{texts, path_of, IsBadWords, IsAnswer, IsTold, HasRisen, IsNotTaken};
+//! The top call of `opt`: what the program answers to its words, over the inputs and into the sinks.
+ghost use Rattle.std.specs.Prelude.{◌≡◌, ◌⊎◌, IfOk, ◌<◌, IfErr, IfSome, MatchOption, None, Some};
+ghost use Rattle.io_edge.specs.Outside.{Rose};
+ghost use Rattle.opt_core.specs.Answer.{texts, path_of, IsAnswer, IsReply, IsTold, HasRisen};
 
-use crate::reply::{Reply, reply_to_text};
-use io_edge::{Inputs, ReadFault, Sink, SinkFailed, read_file, write_all};
-use ir_core::{List, OutOfMemory};
+use crate::reply::{Reply, bad_words, note_of, reply_to_text, text_read_limit, write_reply};
+use io_edge::{Inputs, ReadFault, Sink, read_file};
+use ir_core::OutOfMemory;
 use std::alloc::Global;
 
 /// The file that the words name, where they are `opt` and one word.
@@ -23,27 +22,6 @@ fn path_in(words: &[String]) -> Option<&str>
         }
         _ => None,
     }
-}
-
-/// How many bytes of a module's text are read: those that a text may have, and one more, so that a longer one shows.
-#[tactic(auto, unfolding(ir_core::specs::Tokens::text_limit))]
-fn text_read_limit() -> usize
-    ensures value { result ≡ text_limit + 1 }
-    ensures near { result ≤ 33554433 }
-{
-    4_194_305
-}
-
-fn bad_words(alloc: Global) -> Result<Reply, ReadFault>
-    ensures reply { IfOk result (λ r. IsBadWords r.status r.out r.notes) }
-    ensures memory { IfErr result (λ e. e ≡ ReadFault.Memory) }
-{
-    let notes = List::from_slice(alloc, b"ompopt: bad command line\n")?;
-    Ok(Reply {
-        status: 2,
-        out: List::new(alloc),
-        notes,
-    })
 }
 
 /// The reply to the words.
@@ -64,16 +42,6 @@ fn reply_to_words<I: Inputs>(
     match reply_to_text(alloc, text.as_slice()) {
         Ok(reply) => Ok(reply),
         Err(OutOfMemory) => Err(ReadFault::Memory),
-    }
-}
-
-/// Writes a note, and gives the status where it was written whole, else 6.
-fn note_of<N: Sink>(notes: &mut N, note: &[u8], status: u8) -> u8
-    ensures written { ((result ≡ status) × Grows (N.taken notes.old) (N.taken notes.new) note.now) ⊎ ((result ≡ 6) × GrowsByFront (N.taken notes.old) (N.taken notes.new) note.now × Rose (N.faults notes.old) (N.faults notes.new)) }
-{
-    match write_all(notes, note) {
-        Ok(()) => status,
-        Err(SinkFailed) => 6,
     }
 }
 
@@ -98,15 +66,11 @@ pub fn opt_main<I: Inputs, K: Sink, N: Sink>(
     requires { IfSome (path_of (texts words.now)) (λ path. I.served inputs.old path) }
     ensures input { result ≡ 5 → HasRisen (path_of (texts words.now)) (I.faults inputs.old) (I.faults inputs.new) }
     ensures sink { result ≡ 6 → Rose (K.faults out.old) (K.faults out.new) ⊎ Rose (N.faults notes.old) (N.faults notes.new) }
-    ensures told { IsTold (path_of (texts words.now)) (I.held inputs.old) (K.taken out.old) (K.taken out.new) (N.taken notes.old) (N.taken notes.new) result }
+    ensures told { IsTold (IsReply (path_of (texts words.now)) (I.held inputs.old)) (K.taken out.old) (K.taken out.new) (N.taken notes.old) (N.taken notes.new) result }
 {
-    let reply = match reply_to_words(alloc, words, inputs) {
-        Ok(reply) => reply,
-        Err(ReadFault::Failed) => return note_of(notes, b"ompopt: input failed\n", 5),
-        Err(ReadFault::Memory) => return note_of(notes, b"ompopt: out of memory\n", 7),
-    };
-    match write_all(out, reply.out.as_slice()) {
-        Ok(()) => note_of(notes, reply.notes.as_slice(), reply.status),
-        Err(SinkFailed) => 6,
+    match reply_to_words(alloc, words, inputs) {
+        Ok(reply) => write_reply(out, notes, &reply),
+        Err(ReadFault::Failed) => note_of(notes, b"ompopt: input failed\n", 5),
+        Err(ReadFault::Memory) => note_of(notes, b"ompopt: out of memory\n", 7),
     }
 }

@@ -9,7 +9,8 @@ use ir_core::{FileName, List};
 use std::alloc::{AllocError, Global};
 use std::test::Fail;
 
-const KERNEL: &[u8] = b"define void @k(ptr %p) {
+// A kernel that stores 7.
+pub const KERNEL: &[u8] = b"define void @k(ptr %p) {
 entry:
   %i = call i32 @__kmpc_target_init(ptr null, i8 1, i1 true)
   %m = icmp eq i32 %i, -1

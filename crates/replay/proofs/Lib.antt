@@ -1,2 +1,3 @@
 pub mod TurnLaws
 pub mod NameLaws
+pub mod RunLaws

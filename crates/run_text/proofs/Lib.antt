@@ -6,3 +6,5 @@ pub mod Calls
 pub mod ArgumentForms
 pub mod Launches
 pub mod Widths
+pub mod ReadFronts
+pub mod Fitting

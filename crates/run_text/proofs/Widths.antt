@@ -125,7 +125,7 @@ first_wide : (is : Function → Bool) (fs : List Function) → AllWide fs → (f
 first_wide is [] a f e = let h : ⊥ = cc in absurd h
 first_wide is (g ∷ gs) a f e = first_by (is g) g (first_function is gs) f a.0 (λ h. first_wide is gs a.1 f h) e
 
-known_is : (o : Option Function) (f : Function) → known_kernel o ≡ Ok f → o ≡ Some f
+pub known_is : (o : Option Function) (f : Function) → known_kernel o ≡ Ok f → o ≡ Some f
 known_is None f e = let h : ⊥ = cc in absurd h
 known_is (Some g) f e = let h : g ≡ f = cc in ap Some h
 

@@ -1,0 +1,199 @@
+-- A launch that is read of a module's text fits the module.
+use Rattle.std.proofs.Common.{◌≡◌, ℕ, ◌+◌, ◌-◌, ◌^◌, ◌<◌, ◌≤◌, List, [], ◌∷◌, length, map, replicate, codes, Option, Some, None, option_and_then, slice_get, Result, Ok, Err, Bool, true, false, cond, nat_lt, nat_le, ◌&&◌, if◌then◌else◌, refl, sym, ap, ◌∙◌, subst, arith}
+use Rattle.std.proofs.lemmas.List.{length-replicate}
+use Rattle.std.proofs.lemmas.Bool.{and_parts, leb-true}
+use Rattle.std.proofs.lemmas.Nat.{pow_pos}
+use Rattle.std.proofs.Math.Nat.{mod-lt}
+use Rattle.std.proofs.lemmas.Slice.Eq.{bytes_eq-Decides}
+use Rattle.std.specs.List.{flat_map}
+use Rattle.std.specs.Str.{bytes_eq}
+use Rattle.ir_core.specs.declared.types.Ty.{Ty}
+use Rattle.ir_core.specs.declared.types.Ty.TheVariants.{Int as IntTy, Ptr}
+use Rattle.ir_core.specs.declared.module.Module.{Module}
+use Rattle.ir_core.specs.declared.module.Function.{Function}
+use Rattle.ir_core.specs.declared.module.Param.{Param}
+use Rattle.ir_core.specs.EntryPoints.{target_init, target_deinit}
+use Rattle.ir_core.specs.FirstForm as form
+use Rattle.ir_core.specs.FirstForm.{HasFirstForm, empty, is_bare_declaration, are_functions, only_functions, declares_init, declares_deinit, is_well_formed, is_int_of, is_void, are_init_params, are_deinit_params}
+use Rattle.ir_core.specs.Numbers.{fits, modulo}
+use Rattle.ir_core.specs.Places.{function_name, place_in}
+use Rattle.ir_core.specs.Text.{name_text}
+use Rattle.ir_core.specs.Wrappers.{is_in, block_callees}
+use Rattle.mem_model.specs.declared.launch.Launch.{Launch}
+use Rattle.mem_model.specs.declared.launch.Arg.{Arg}
+use Rattle.mem_model.specs.declared.launch.Arg.TheVariants.{Buffer, Int as IntArg, Null}
+use Rattle.mem_model.specs.Memory.{block_limit}
+use Rattle.mem_model.specs.Launching.{Fits, FitsParam, FitParams, is_kernel, buffer_size, buffer_sizes, threads_limit, steps_limit, buffers_limit}
+use Rattle.run_text.specs.declared.launch.LaunchFaultKind.{LaunchFaultKind}
+use Rattle.run_text.specs.declared.launch.LaunchFaultKind.TheVariants.{ArgumentForm, ArgumentSize, ThreadsRange, StepsRange, TextSize}
+use Rattle.run_text.specs.declared.launch.LaunchFault.{LaunchFault}
+use Rattle.run_text.specs.Lines.{Line, lines, behind, numeral}
+use Rattle.run_text.specs.Kept.{kept_lines}
+use Rattle.run_text.specs.LaunchText.{ArgForm, Zeros, Bytes, NullForm, NumberForm, first_function, kernel_named, named_kernel, kernel_line, in_range, threads_line, steps_line, sized, arg_for, formed_arg, arg_form, or_fault, next_line, and_more, arguments, launch_with, launch_in, launch_limit, LaunchOf, fault_at}
+use Rattle.run_text.specs.Stages.{behind_steps, behind_threads, behind_kernel}
+use Rattle.run_text.proofs.Widths.{known_is}
+
+-- ---- arguments
+
+sized_by : (left size : ℕ) (bytes : List ℕ) (a : Arg) → length bytes ≡ size → (b : Bool) → (nat_le size block_limit && nat_le size left) ≡ b →
+    ◌≡◌ {A = Result Arg LaunchFaultKind} (if b then Ok (Buffer bytes) else Err ArgumentSize) (Ok a) → FitsParam Ptr a × (buffer_size a ≤ left)
+sized_by left size bytes a n false h e = let f : ⊥ = cc in absurd f
+sized_by left size bytes a n true h e =
+    let p = and_parts (nat_le size block_limit) (nat_le size left) h in
+    let block = leb-true size block_limit p.0 in
+    let all = leb-true size left p.1 in
+    let same : Buffer bytes ≡ a = cc in
+    subst (λ x. FitsParam Ptr x × (buffer_size x ≤ left)) same (omega arith, omega arith)
+
+sized_fits : (left size : ℕ) (bytes : List ℕ) (a : Arg) → length bytes ≡ size → sized left size bytes ≡ Ok a → FitsParam Ptr a × (buffer_size a ≤ left)
+sized_fits left size bytes a n e = sized_by left size bytes a n (nat_le size block_limit && nat_le size left) refl e
+
+int_by : (left width : ℕ) (is_negative : Bool) (n : ℕ) (a : Arg) (b : Bool) →
+    ◌≡◌ {A = Result Arg LaunchFaultKind} (if b then Ok (IntArg (modulo width is_negative n)) else Err ArgumentForm) (Ok a) → FitsParam (IntTy width) a × (buffer_size a ≤ left)
+int_by left width is_negative n a false e = let f : ⊥ = cc in absurd f
+int_by left width is_negative n a true e =
+    let same : IntArg (modulo width is_negative n) ≡ a = cc in
+    subst (λ x. FitsParam (IntTy width) x × (buffer_size x ≤ left)) same (below width is_negative n, omega arith)
+  where
+    below : (width : ℕ) (is_negative : Bool) (n : ℕ) → modulo width is_negative n < 2 ^ width
+    below width true n = mod-lt (2 ^ width - n) (pow_pos width)
+    below width false n = mod-lt n (pow_pos width)
+
+arg_fits : (left : ℕ) (ty : Ty) (f : ArgForm) (a : Arg) → arg_for left ty f ≡ Ok a → FitsParam ty a × (buffer_size a ≤ left)
+arg_fits left Ptr (Zeros n) a e = sized_fits left n (replicate n 0) a (length-replicate n 0) e
+arg_fits left Ptr (Bytes bytes) a e = sized_fits left (length bytes) bytes a refl e
+arg_fits left Ptr NullForm a e = let same : Null ≡ a = cc in subst (λ x. FitsParam Ptr x × (buffer_size x ≤ left)) same (tt, omega arith)
+arg_fits left Ptr (NumberForm is_negative n) a e = let f : ⊥ = cc in absurd f
+arg_fits left (IntTy width) (NumberForm is_negative n) a e = int_by left width is_negative n a (fits width is_negative n) e
+arg_fits left (IntTy width) (Zeros n) a e = let f : ⊥ = cc in absurd f
+arg_fits left (IntTy width) (Bytes bytes) a e = let f : ⊥ = cc in absurd f
+arg_fits left (IntTy width) NullForm a e = let f : ⊥ = cc in absurd f
+arg_fits left _ f a e = let f : ⊥ = cc in absurd f
+
+formed_fits : (left : ℕ) (ty : Ty) (o : Option ArgForm) (a : Arg) → formed_arg left ty o ≡ Ok a → FitsParam ty a × (buffer_size a ≤ left)
+formed_fits left ty None a e = let f : ⊥ = cc in absurd f
+formed_fits left ty (Some f) a e = arg_fits left ty f a e
+
+-- what goes on behind a line that was read
+fault_by : {A B X : Type 0} (line : ℕ) (r : Result A LaunchFaultKind) (go : A → Result B LaunchFault) (y : B) → ((x : A) → r ≡ Ok x → go x ≡ Ok y → X) → or_fault line r go ≡ Ok y → X
+fault_by line (Err fault) go y k e = let f : ⊥ = cc in absurd f
+fault_by line (Ok x) go y k e = k x refl e
+
+more_by : {X : Type 0} (arg : Arg) (r : Result (List Arg) LaunchFault) (args : List Arg) → ((rest : List Arg) → r ≡ Ok rest → (arg ∷ rest) ≡ args → X) → and_more arg r ≡ Ok args → X
+more_by arg (Err fault) args k e = let f : ⊥ = cc in absurd f
+more_by arg (Ok rest) args k e = let same : (arg ∷ rest) ≡ args = cc in k rest refl same
+
+abbrev FitAll : ℕ → List Param → List Arg → Type 0
+FitAll left ps args = FitParams ps args × (buffer_sizes args ≤ left)
+
+args_fit : (end left : ℕ) (ps : List Param) (ls : List Line) (args : List Arg) → arguments end left ps ls ≡ Ok args → FitAll left ps args
+args_fit end left [] [] args e = let same : [] ≡ args = cc in subst (FitAll left []) same (tt, omega arith)
+args_fit end left [] (l ∷ ls) args e = let f : ⊥ = cc in absurd f
+args_fit end left (p ∷ ps) [] args e = let f : ⊥ = cc in absurd f
+args_fit end left (p ∷ ps) (l ∷ ls) args e =
+    fault_by l.number (formed_arg left p.ty (arg_form l.bytes)) (λ arg. and_more arg (arguments end (left - buffer_size arg) ps ls)) args
+    (λ arg r h.
+    more_by arg (arguments end (left - buffer_size arg) ps ls) args
+    (λ rest s same.
+    let one = formed_fits left p.ty (arg_form l.bytes) arg r in
+    let more = args_fit end (left - buffer_size arg) ps ls rest s in
+    subst (FitAll left (p ∷ ps)) same ((one.0, more.0), omega (arith, one.1, more.1)))
+    h)
+    e
+
+-- ---- the kernel
+
+no_blocks : {A : Type 0} (xs : List A) → empty xs ≡ true → xs ≡ []
+no_blocks [] e = refl
+no_blocks (x ∷ xs) e = let f : ⊥ = cc in absurd f
+
+-- a declaration is no kernel
+bare_is_none : (name : List ℕ) (f : Function) → is_bare_declaration name f ≡ true → is_kernel f ≡ false
+bare_is_none name f e =
+    let p = and_parts _ (empty f.blocks) e in
+    ap (λ bs. is_in (flat_map block_callees bs) target_init) (no_blocks f.blocks p.1)
+
+pub record IsFirst (fs : List Function) (f : Function) : Type 0 where
+  pub named : place_in (map function_name fs) f.name ≡ Some 0
+  pub there : slice_get fs 0 ≡ Some f
+  pub kernel : is_kernel f ≡ true
+
+abbrev has_text : List ℕ → Function → Bool
+has_text name f = is_kernel f && bytes_eq (name_text f.name) name
+
+first_by : (name : List ℕ) (k i d f : Function) → is_kernel i ≡ false → is_kernel d ≡ false → (b : Bool) → has_text name k ≡ b → cond b (Some k) (cond (has_text name i) (Some i) (cond (has_text name d) (Some d) None)) ≡ Some f → IsFirst (k ∷ i ∷ d ∷ []) f
+first_by name k i d f not_i not_d true h e =
+    let same : k ≡ f = cc in
+    let itself = (bytes_eq-Decides k.name k.name).1 refl in
+    subst (IsFirst (k ∷ i ∷ d ∷ [])) same (record { named = rw itself refl; there = refl; kernel = (and_parts (is_kernel k) (bytes_eq (name_text k.name) name) h).0 })
+first_by name k i d f not_i not_d false h e =
+    let other_i : has_text name i ≡ false = ap (λ b. b && bytes_eq (name_text i.name) name) not_i in
+    let other_d : has_text name d ≡ false = ap (λ b. b && bytes_eq (name_text d.name) name) not_d in
+    let none : ◌≡◌ {A = Option Function} None (Some f) = sym (ap (λ b. cond b (Some i) (cond (has_text name d) (Some d) None)) other_i ∙ ap (λ b. cond b (Some d) None) other_d) ∙ e in
+    let g : ⊥ = cc in
+    absurd g
+
+kernel_first : (fs : List Function) → are_functions true fs ≡ true → (name : List ℕ) (f : Function) → first_function (has_text name) fs ≡ Some f → IsFirst fs f
+kernel_first (k ∷ i ∷ d ∷ []) h name f e =
+    let h3 = and_parts (form.is_kernel true k && is_well_formed k && declares_init i) (declares_deinit d) h in
+    let h2 = and_parts (form.is_kernel true k && is_well_formed k) (declares_init i) h3.0 in
+    let bare_i = and_parts (is_bare_declaration target_init i) (is_int_of 32 i.ret) (and_parts (is_bare_declaration target_init i && is_int_of 32 i.ret) (are_init_params i.params) h2.1).0 in
+    let bare_d = and_parts (is_bare_declaration target_deinit d) (is_void d.ret) (and_parts (is_bare_declaration target_deinit d && is_void d.ret) (are_deinit_params d.params) h3.1).0 in
+    first_by name k i d f (bare_is_none target_init i bare_i.0) (bare_is_none target_deinit d bare_d.0) (has_text name k) refl e
+kernel_first [] h name f e = absurd (let f : false ≡ true = h in cc)
+kernel_first (k ∷ []) h name f e = absurd (let f : false ≡ true = h in cc)
+kernel_first (k ∷ i ∷ []) h name f e = absurd (let f : false ≡ true = h in cc)
+kernel_first (k ∷ i ∷ d ∷ more ∷ fs) h name f e = absurd (let f : false ≡ true = h in cc)
+
+module _ (m : Module) (first : HasFirstForm m) where
+  named_first : (o : Option (List ℕ)) (f : Function) → named_kernel m o ≡ Ok f → IsFirst m.functions f
+  named_first None f e = let g : ⊥ = cc in absurd g
+  named_first (Some []) f e = let g : ⊥ = cc in absurd g
+  named_first (Some (c ∷ cs)) f e =
+      let p = and_parts (only_functions m) (are_functions true m.functions) first in
+      kernel_first m.functions p.1 (c ∷ cs) f (known_is (kernel_named m (c ∷ cs)) f e)
+
+  -- ---- the lines
+
+  range_by : (limit : ℕ) (fault : LaunchFaultKind) (k n : ℕ) (b : Bool) → (nat_le 1 k && nat_le k limit) ≡ b → ◌≡◌ {A = Result ℕ LaunchFaultKind} (if b then Ok k else Err fault) (Ok n) → (1 ≤ n) × (n ≤ limit)
+  range_by limit fault k n false h e = let f : ⊥ = cc in absurd f
+  range_by limit fault k n true h e =
+      let p = and_parts (nat_le 1 k) (nat_le k limit) h in
+      let same : k ≡ n = cc in
+      subst (λ x. (1 ≤ x) × (x ≤ limit)) same (leb-true 1 k p.0, leb-true k limit p.1)
+
+  in_the_range : (limit : ℕ) (fault : LaunchFaultKind) (o : Option ℕ) (n : ℕ) → in_range limit fault o ≡ Ok n → (1 ≤ n) × (n ≤ limit)
+  in_the_range limit fault None n e = let f : ⊥ = cc in absurd f
+  in_the_range limit fault (Some k) n e = range_by limit fault k n (nat_le 1 k && nat_le k limit) refl e
+
+  line_by : {A B X : Type 0} (end : ℕ) (read : List ℕ → Result A LaunchFaultKind) (ls : List Line) (go : A → List Line → Result B LaunchFault) (y : B) →
+      ((bytes : List ℕ) (rest : List Line) (x : A) → read bytes ≡ Ok x → go x rest ≡ Ok y → X) → next_line end read ls go ≡ Ok y → X
+  line_by end read [] go y k e = let f : ⊥ = cc in absurd f
+  line_by end read (l ∷ ls) go y k e = fault_by l.number (read l.bytes) (λ x. go x ls) y (k l.bytes ls) e
+
+  args_by : (f : Function) (threads steps : ℕ) (l : Launch) → IsFirst m.functions f → (1 ≤ threads) × (threads ≤ threads_limit) → (1 ≤ steps) × (steps ≤ steps_limit) →
+      (r : Result (List Arg) LaunchFault) → ((args : List Arg) → r ≡ Ok args → FitAll buffers_limit f.params args) → launch_with f threads steps r ≡ Ok l → Fits m l
+  args_by f threads steps l is t s (Err fault) fit e = let g : ⊥ = cc in absurd g
+  args_by f threads steps l is t s (Ok args) fit e =
+      let same : ◌≡◌ {A = Launch} (record { kernel = f.name; threads = threads; steps = steps; args = args }) l = cc in
+      let all = fit args refl in
+      subst (Fits m) same (record { place = 0; function = f; named = is.named; there = is.there; is_kernel = is.kernel; threads = t; steps = s; params = all.0; buffers = all.1 })
+
+  launch_by : (end : ℕ) (ls : List Line) (l : Launch) → launch_in m end ls ≡ Ok l → Fits m l
+  launch_by end ls l e =
+      line_by end (kernel_line m) ls (behind_kernel end) l
+      (λ kernel more f k. line_by end threads_line more (behind_threads f end) l
+      (λ threads_bytes more threads t. line_by end steps_line more (behind_steps f end threads) l
+      (λ steps_bytes more steps s.
+      args_by f threads steps l (named_first (behind (codes "kernel ") kernel) f k)
+      (in_the_range threads_limit ThreadsRange (option_and_then numeral (behind (codes "threads ") threads_bytes)) threads t)
+      (in_the_range steps_limit StepsRange (option_and_then numeral (behind (codes "steps ") steps_bytes)) steps s)
+      (arguments end buffers_limit f.params more) (args_fit end buffers_limit f.params more))))
+      e
+
+  launch_if : (b : Bool) (text : List ℕ) (l : Launch) → ◌≡◌ {A = Result Launch LaunchFault} (if b then Err (fault_at 1 TextSize) else launch_in m (length (lines text) + 1) (kept_lines 1 text)) (Ok l) → Fits m l
+  launch_if true text l e = let f : ⊥ = cc in absurd f
+  launch_if false text l e = launch_by (length (lines text) + 1) (kept_lines 1 text) l e
+
+  pub launch_fits : (text : List ℕ) (l : Launch) → LaunchOf m text ≡ Ok l → Fits m l
+  launch_fits text l e = launch_if (nat_lt launch_limit (length text)) text l e
