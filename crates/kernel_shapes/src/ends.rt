@@ -17,7 +17,7 @@ fn returns(kind: &Kind) -> bool
 
 /// Whether the instruction before is a deinit call of the generic mode.
 fn is_deinit(before: Option<&Inst>) -> bool
-    ensures { result ≡ spec.is_deinit (option_copied before) }
+    ensures { result ≡ spec.is_deinit (option_copied before.entry) }
 {
     match before {
         None => false,
@@ -48,7 +48,7 @@ fn returns_next(behind: &[Inst]) -> bool
 
 /// What is told of a return, unless it is free.
 fn of_return(free: bool, before: Option<&Inst>, inst: &Inst) -> Option<Refusal>
-    ensures { result ≡ least (ends.of_return free (option_copied before) inst.now) }
+    ensures { result ≡ least (ends.of_return free (option_copied before.entry) inst.now) }
 {
     if returns(&inst.kind) {
         rule(Construct::KernelShape, free || is_deinit(before), inst.line)
@@ -78,7 +78,7 @@ fn of_end(
     inst: &Inst,
     behind: &[Inst],
 ) -> Option<Refusal>
-    ensures { result ≡ least (ends.of_end free (option_copied before) inst.now behind.now) }
+    ensures { result ≡ least (ends.of_end free (option_copied before.entry) inst.now behind.now) }
 {
     earlier(of_return(free, before, inst), of_deinit(inst, behind))
 }

@@ -6,3 +6,6 @@ use Rattle.kernel_shapes.proofs.ends.of_ends.Given as goal
 
 abbrev pub invariant-loop-place : goal.invariant-loop-place
 invariant-loop-place l = (l.found ≡ least (of_ends l.free (before_place l.insts l.place) (drop l.place l.insts))) × (l.place ≤ length l.insts)
+
+abbrev pub decreases-loop-place : goal.decreases-loop-place
+decreases-loop-place l = l.place
