@@ -72,12 +72,7 @@ fn of_deinit(inst: &Inst, behind: &[Inst]) -> Option<Refusal>
     }
 }
 
-fn of_end(
-    free: bool,
-    before: Option<&Inst>,
-    inst: &Inst,
-    behind: &[Inst],
-) -> Option<Refusal>
+fn of_end(free: bool, before: Option<&Inst>, inst: &Inst, behind: &[Inst]) -> Option<Refusal>
     ensures { result ≡ least (ends.of_end free (option_copied before.entry) inst.now behind.now) }
 {
     earlier(of_return(free, before, inst), of_deinit(inst, behind))

@@ -45,10 +45,7 @@ fn add_contents<'a>(
 }
 
 /// The names in what globals hold at first.
-pub fn add_globals<'a>(
-    names: &mut List<&'a [u8]>,
-    globals: &'a [Global],
-) -> Result<(), OutOfMemory>
+pub fn add_globals<'a>(names: &mut List<&'a [u8]>, globals: &'a [Global]) -> Result<(), OutOfMemory>
     ensures { OnOk result (names_seen names.new ≡ names_seen names.old ++ flat_map global_names globals.now) }
 {
     for global in globals {

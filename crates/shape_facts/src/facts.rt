@@ -9,7 +9,10 @@ pub fn calls(entry_point: Rtl, kind: &Kind) -> bool
     ensures { result ≡ spec.calls entry_point kind.now }
 {
     match kind {
-        Kind::Call { callee: Value::Global(name), .. } => name.as_slice() == entry_point.name(),
+        Kind::Call {
+            callee: Value::Global(name),
+            ..
+        } => name.as_slice() == entry_point.name(),
         _ => false,
     }
 }

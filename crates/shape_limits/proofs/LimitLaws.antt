@@ -98,7 +98,7 @@ block_there limit fs i left d f b below is lefts low within at =
     let behind = flat_map block_lines (drop (i + 1) fs) in
     let size : left < length (block_lines f) = subst (λ n. left < n) (sym (length-map f.blocks block_line)) within in
     let parts : flat_map block_lines fs ≡ before ++ (block_lines f ++ behind) =
-        ap (flat_map block_lines) (sym (take-append-drop i fs) ∙ ap (λ gs. take i fs ++ gs) (drop_more fs i d below ∙ ap (λ g. g ∷ drop (i + 1) fs) (sym is))) ∙ flat_map-append block_lines (take i fs) (f ∷ drop (i + 1) fs) in
+    ap (flat_map block_lines) (sym (take-append-drop i fs) ∙ ap (λ gs. take i fs ++ gs) (drop_more fs i d below ∙ ap (λ g. g ∷ drop (i + 1) fs) (sym is))) ∙ flat_map-append block_lines (take i fs) (f ∷ drop (i + 1) fs) in
     ap (beyond limit) parts ∙ beyond_behind before (block_lines f ++ behind) limit low ∙ ap (λ n. beyond n (block_lines f ++ behind)) (sym lefts)
     ∙ beyond_before (block_lines f) behind left size ∙ beyond_own block_line f.blocks left b within at
 

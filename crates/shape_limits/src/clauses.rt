@@ -25,7 +25,9 @@ const LOCATED: [Rtl; 8] = [
 fn is_located(inst: &Inst) -> bool
     ensures { result ≡ list_any (λ r. is_call r inst.now) spec.located }
 {
-    LOCATED.iter().any(|entry_point| is_call_of(*entry_point, inst))
+    LOCATED
+        .iter()
+        .any(|entry_point| is_call_of(*entry_point, inst))
 }
 
 fn has_location(inst: &Inst) -> bool

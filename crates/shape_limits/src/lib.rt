@@ -4,7 +4,6 @@
 mod clauses;
 mod counts;
 mod limits;
-
 mod sizes;
 
 pub use clauses::of_all_clauses;

@@ -15,10 +15,9 @@ loop-place-preserved c =
     let within = c.loop-place.invariant.1 in
     let some = c.loop-place-test.true in
     let n = place + 1 in
-    let behind : take (length insts - n) (drop n insts) ≡ drop n insts = take_all (length insts - n) (drop n insts) (let size = length-drop n insts in omega arith) in
-    (
+    let behind : take (length insts - n) (drop n insts) ≡ drop n insts = take_all (length insts - n) (drop n insts) (let size = length-drop n insts in omega arith) in (
       c.earlier-found.ensures
-      ∙ ap (λ o. or_first o c.loop-place.found) (c.of_end-own.ensures ∙ ap (λ is. least (of_end c.args.free (option_copied c.before_place-before.result) i is)) behind ∙ ap (λ o. least (of_end c.args.free o i (drop (place + 1) insts))) c.before_place-before.ensures)
-      ∙ ends_back c.args.free insts place c.loop-place.place i c.loop-place.found (omega arith) (omega arith) c.index-insts-place.is c.loop-place.invariant.0,
+          ∙ ap (λ o. or_first o c.loop-place.found) (c.of_end-own.ensures ∙ ap (λ is. least (of_end c.args.free (option_copied c.before_place-before.result) i is)) behind ∙ ap (λ o. least (of_end c.args.free o i (drop (place + 1) insts))) c.before_place-before.ensures)
+          ∙ ends_back c.args.free insts place c.loop-place.place i c.loop-place.found (omega arith) (omega arith) c.index-insts-place.is c.loop-place.invariant.0,
       omega arith,
     )
