@@ -3,7 +3,7 @@ ghost use Rattle.std.specs.Prelude.{◌≡◌, option_map};
 ghost use Rattle.shapes.specs.Walk as spec;
 ghost use Rattle.wrapper_shapes.specs.Seen.{form_seen, given_seen, slot_seen, known_seen};
 
-use ir_core::Ty;
+use ir_core::{CastOp, Ty, Typed, Value};
 
 /// How many bits of a captured word count, or that it is a pointer.
 #[derive(Clone, Copy)]
@@ -202,5 +202,73 @@ pub fn stored_in(known: Option<Known>, given: Option<Given>, form: Option<Form>)
     match (known, given, form) {
         (Some(Known::Stack(slot)), Some(given), Some(form)) => put_given(slot, given, form),
         _ => None,
+    }
+}
+
+/// The slot that is made for a type: nothing was stored in it, and it holds a zero.
+pub fn new_slot(ty: &Ty) -> Option<Known>
+    ensures { option_map known_seen result ≡ option_map (λ f. spec.IsSlot (record { form = f; stored = 0; holds = spec.Number 0 })) (spec.form_of ty.now) }
+{
+    match form_of(ty) {
+        None => None,
+        Some(form) => Some(Known::Stack(Slot {
+            form,
+            stored: 0,
+            holds: Given::Number(0),
+        })),
+    }
+}
+
+/// The slot in which the address of the captured words is put, if it is one of a pointer.
+pub fn area_in(known: Option<Known>) -> Option<Slot>
+    ensures { option_map slot_seen result ≡ option_map spec.area_slot (spec.pointer_slot (option_map known_seen known)) }
+{
+    match pointer_slot(known) {
+        None => None,
+        Some(slot) => Some(area_slot(slot)),
+    }
+}
+
+/// The one index of a path, if it is a number.
+pub fn number_at(path: &[Typed]) -> Option<u64>
+    ensures { result ≡ spec.number_at path.now }
+{
+    match path {
+        [index] => match &index.value {
+            Value::Int(n) => Some(*n),
+            _ => None,
+        },
+        _ => None,
+    }
+}
+
+/// The address of a captured word, counted from where they stand.
+pub fn address_in(given: Option<Given>, place: Option<u64>) -> Option<Known>
+    ensures { option_map known_seen result ≡ spec.address_in (option_map given_seen given) place }
+{
+    match (given, place) {
+        (Some(Given::Area), Some(place)) => Some(Known::Is(Given::Address(place))),
+        _ => None,
+    }
+}
+
+fn cut(given: Option<Given>, form: Option<Form>) -> Option<Known>
+    ensures { option_map known_seen result ≡ spec.cut (option_map given_seen given) (option_map form_seen form) }
+{
+    match (given, form) {
+        (Some(Given::Word(place, Form::Bits(n))), Some(Form::Bits(width))) => {
+            Some(Known::Is(Given::Word(place, Form::Bits(n.min(width)))))
+        }
+        _ => None,
+    }
+}
+
+/// What a conversion makes of a captured word.
+pub fn converted(op: CastOp, given: Option<Given>, form: Option<Form>) -> Option<Known>
+    ensures { option_map known_seen result ≡ spec.converted op (option_map given_seen given) (option_map form_seen form) }
+{
+    match op {
+        CastOp::Trunc | CastOp::ZExt => cut(given, form),
+        CastOp::SExt | CastOp::IntToPtr | CastOp::PtrToInt => None,
     }
 }
