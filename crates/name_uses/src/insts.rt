@@ -1,13 +1,11 @@
 //! Names in instructions.
-ghost use Rattle.std.specs.Prelude.{◌≡◌, ◌++◌, [], OnOk, if◌then◌else◌};
+ghost use Rattle.std.specs.Prelude.{◌≡◌, ◌++◌, OnOk, if◌then◌else◌};
 ghost use Rattle.std.specs.List.{flat_map};
 ghost use Rattle.ir_core.specs.Typing as typing;
-ghost use Rattle.ir_core.specs.declared.rtl.Rtl.TheVariants.{Parallel};
-ghost use Rattle.ir_core.specs.Wrappers.{value_names, kind_callees, inst_callees, inst_wrappers};
-ghost use Rattle.shapes.specs.Facts.{is_call_of as is_call, operand_of as operand};
+ghost use Rattle.ir_core.specs.Wrappers.{value_names, wrapper_operand, kind_callees, kind_wrappers, inst_callees, inst_wrappers};
 ghost use Rattle.ir_tables.specs.Names.{names_seen};
 ghost use Rattle.shapes.specs.Insts.{insts_seen};
-ghost use Rattle.shapes.specs.Uses.{operand_names, case_names, typed_names, kind_names, inst_names, kind_names_elsewhere, inst_names_elsewhere, without_wrapper, fork_names};
+ghost use Rattle.shapes.specs.Uses.{operand_names, case_names, kind_names, inst_names, kind_names_elsewhere, inst_names_elsewhere, without_wrapper, fork_names};
 
 use crate::names::{add_cases, add_edges, add_operands, add_optional, add_pair, add_value};
 use ir_core::{Case, Inst, Kind, List, OutOfMemory, Rtl, Typed, Value};
@@ -126,20 +124,44 @@ fn add_callee<'a>(names: &mut List<&'a [u8]>, kind: &'a Kind) -> Result<(), OutO
     }
 }
 
-/// The name that an operand of a fork is.
-fn add_fork_operand<'a>(
-    names: &mut List<&'a [u8]>,
-    inst: &'a Inst,
-    place: usize,
-) -> Result<(), OutOfMemory>
-    ensures { OnOk result (names_seen names.new ≡ names_seen names.old ++ (if is_call Parallel inst.now then typed_names (operand inst.now place) else [])) }
+/// The name that the region function of a fork has.
+fn add_region<'a>(names: &mut List<&'a [u8]>, inst: &'a Inst) -> Result<(), OutOfMemory>
+    ensures { OnOk result (names_seen names.new ≡ names_seen names.old ++ fork_names inst.now) }
 {
     if !is_call_of(Rtl::Parallel, inst) {
         return Ok(());
     }
-    match operand_of(inst, place) {
+    match operand_of(inst, 5) {
         None => Ok(()),
         Some(operand) => add_value(names, &operand.value),
+    }
+}
+
+fn add_wrapper_operand<'a>(
+    names: &mut List<&'a [u8]>,
+    operands: &'a [Typed],
+) -> Result<(), OutOfMemory>
+    ensures { OnOk result (names_seen names.new ≡ names_seen names.old ++ wrapper_operand operands.now) }
+{
+    match operands {
+        [_, _, _, _, _, _, wrapper, _, _] => add_value(names, &wrapper.value),
+        _ => Ok(()),
+    }
+}
+
+/// The name that the wrapper of a fork has.
+fn add_wrapper<'a>(names: &mut List<&'a [u8]>, kind: &'a Kind) -> Result<(), OutOfMemory>
+    ensures { OnOk result (names_seen names.new ≡ names_seen names.old ++ kind_wrappers kind.now) }
+{
+    match kind {
+        Kind::Call { callee, args, .. } => {
+            if is_fork(callee) {
+                add_wrapper_operand(names, args.as_slice())
+            } else {
+                Ok(())
+            }
+        }
+        _ => Ok(()),
     }
 }
 
@@ -178,7 +200,7 @@ pub fn add_forked<'a>(names: &mut List<&'a [u8]>, insts: &[&'a Inst]) -> Result<
     ensures { OnOk result (names_seen names.new ≡ names_seen names.old ++ flat_map fork_names (insts_seen insts.now)) }
 {
     for inst in insts {
-        add_fork_operand(names, inst, 5)?;
+        add_region(names, inst)?;
     }
     Ok(())
 }
@@ -188,7 +210,7 @@ pub fn add_wrappers<'a>(names: &mut List<&'a [u8]>, insts: &[&'a Inst]) -> Resul
     ensures { OnOk result (names_seen names.new ≡ names_seen names.old ++ flat_map inst_wrappers (insts_seen insts.now)) }
 {
     for inst in insts {
-        add_fork_operand(names, inst, 6)?;
+        add_wrapper(names, &inst.kind)?;
     }
     Ok(())
 }
