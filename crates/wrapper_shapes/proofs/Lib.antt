@@ -1,1 +1,3 @@
+pub mod PathLaws
+pub mod RegionLaws
 pub mod WalkLaws

@@ -2,7 +2,11 @@
 use Rattle.std.specs.Prelude.{ℕ, List, [], ◌∷◌, map, Bool, true, false, Option, Some, None, option_map, if◌then◌else◌}
 use Rattle.std.specs.Borrow.{Bor}
 use Rattle.std.specs.Str.{bytes_eq}
+use Rattle.std.specs.Option.{option_copied}
+use Rattle.ir_core.specs.declared.instructions.Inst.{Inst}
+use Rattle.ir_core.specs.declared.module.Function.{Function}
 use Rattle.ir_core.specs.Places.{Name}
+use Rattle.ir_core.specs.Wrappers.{captures_of}
 use Rattle.shapes.specs.Walk as walk
 use Rattle.wrapper_shapes.specs.declared.slots.Form.{Form}
 use Rattle.wrapper_shapes.specs.declared.slots.Form.TheVariants.{Bits, Pointer}
@@ -57,3 +61,14 @@ walk_seen w = record { known = known_after walk.nothing_known w.known; asked = w
 abbrev pub went : Bool → walk.Walk → Option walk.Walk
 went true w = Some w
 went false w = None
+
+-- the walk behind an instruction of a wrapper with this region function
+abbrev pub step_for : Option Function → walk.Walk → Inst → Option walk.Walk
+step_for region w i = walk.step_kind (captures_of region) region w i.result i.kind
+
+-- the region functions of a list of functions
+abbrev pub region_seen : Option (Bor Function) → Option Function
+region_seen f = option_copied f
+
+abbrev pub regions_seen : List (Option (Bor Function)) → List (Option Function)
+regions_seen regions = map region_seen regions

@@ -40,7 +40,7 @@ fn last_known(entries: &[Entry], name: &[u8]) -> Option<Known>
     found
 }
 
-fn is_function(name: &[u8], value: &Value) -> bool
+pub fn is_function(name: &[u8], value: &Value) -> bool
     ensures { result ≡ is_function name.now value.now }
 {
     match value {
@@ -327,5 +327,12 @@ impl<'a> Walk<'a> {
             Kind::Ret { value: None } => Ok(true),
             _ => Ok(false),
         }
+    }
+
+    /// The forms in which the captured words were passed on.
+    pub fn into_passed(self) -> Option<List<Form>>
+        ensures { option_map forms_seen result ≡ (walk_seen self.entry).passed }
+    {
+        self.passed
     }
 }
