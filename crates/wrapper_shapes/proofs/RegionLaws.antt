@@ -1,9 +1,10 @@
 -- The first defined function that is called, and whether the captured words are asked for.
-use Rattle.std.proofs.Common.{◌≡◌, ℕ, ◌+◌, ◌<◌, ◌≤◌, List, [], ◌∷◌, ◌++◌, length, drop, get_or, Bool, true, false, Option, Some, None, refl, sym, ap, ◌∙◌, Decides, ◌==◌, if◌then◌else◌, cond}
+use Rattle.std.proofs.Common.{◌≡◌, ℕ, ◌+◌, ◌<◌, ◌≤◌, List, [], ◌∷◌, ◌++◌, length, drop, get_or, Bool, true, false, Option, Some, None, refl, sym, ap, ◌∙◌, Decides, ◌==◌, add-one, arith, if◌then◌else◌, cond}
 use Rattle.std.specs.List.{flat_map, find}
 use Rattle.std.specs.Str.{bytes_eq}
 use Rattle.std.proofs.lemmas.Grind.{flat_map-append}
-use Rattle.std.proofs.lemmas.List.{drop_more, drop_all, append-nil}
+use Rattle.std.proofs.lemmas.List.{drop_more, drop_all}
+use Rattle.std.proofs.lemmas.Bool.Decides.{nat_tests}
 use Rattle.std.proofs.lemmas.Slice.Eq.{bytes_eq-Decides}
 use Rattle.ir_core.specs.declared.instructions.Value.{Value}
 use Rattle.ir_core.specs.declared.instructions.Value.TheVariants.{Global as GlobalValue}
@@ -32,16 +33,22 @@ defined_is (f ∷ fs) x =
       | false ↦ defined_is fs x
     ]
 
+not_none : (n : ℕ) → (n + 1 == 0) ≡ true → ⊥
+not_none n is = grind (arith, nat_tests)
+
+none : (0 == 0) ≡ false → ⊥
+none is = grind (arith, nat_tests)
+
 without : (f : Function) (bs : List Block) → true ≡ (length bs == 0) → None ≡ first_of (with_blocks f bs)
-without f [] none = refl
-without f (b ∷ bs) none = let e : ⊥ = cc in absurd e
+without f [] is = refl
+without f (b ∷ bs) is = absurd (not_none (length bs) (ap (λ n. n == 0) (add-one (length bs)) ∙ sym is))
 
 pub no_blocks : (fs : List Function) (x : Name) (f : Function) → find (λ g. bytes_eq g.name x) fs ≡ Some f → true ≡ (length f.blocks == 0) → None ≡ first_of (defined fs x)
-no_blocks fs x f is none = without f f.blocks none ∙ sym (defined_is fs x ∙ ap if_defined is)
+no_blocks fs x f is empty = without f f.blocks empty ∙ sym (defined_is fs x ∙ ap if_defined is)
 
 with_any : (f : Function) (bs : List Block) → false ≡ (length bs == 0) → Some f ≡ first_of (with_blocks f bs)
-with_any f [] some = let e : ⊥ = cc in absurd e
-with_any f (b ∷ bs) some = refl
+with_any f [] is = absurd (none (sym is))
+with_any f (b ∷ bs) is = refl
 
 pub with_some : (fs : List Function) (x : Name) (f : Function) → find (λ g. bytes_eq g.name x) fs ≡ Some f → false ≡ (length f.blocks == 0) → Some f ≡ first_of (defined fs x)
 with_some fs x f is some = with_any f f.blocks some ∙ sym (defined_is fs x ∙ ap if_defined is)

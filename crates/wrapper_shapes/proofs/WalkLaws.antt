@@ -35,7 +35,6 @@ pub read_more : (read ks : List ℕ) (k : ℕ) → read_after read (ks ++ k ∷ 
 read_more read [] k = refl
 read_more read (j ∷ ks) k = read_more (j ∷ read) ks k
 
-
 pub among_after : (read ks : List ℕ) (k : ℕ) → walk.is_among (read_after read ks) k ≡ list_any (λ n. n == k) ks || walk.is_among read k
 among_after read [] k = refl
 among_after read (j ∷ ks) k = among_after (j ∷ read) ks k ∙ swap (list_any (λ n. n == k) ks) (j == k) (walk.is_among read k)

@@ -27,7 +27,13 @@ fn defined_as<'a>(m: &'a Indexed, name: &Name) -> Option<&'a Function>
 {
     match function_given(m, name) {
         None => None,
-        Some(f) => { if f.blocks.as_slice().is_empty() { None } else { Some(f) } }
+        Some(f) => {
+            if f.blocks.as_slice().is_empty() {
+                None
+            } else {
+                Some(f)
+            }
+        }
     }
 }
 
@@ -36,7 +42,10 @@ fn called_by<'a>(m: &'a Indexed, inst: &Inst) -> Option<&'a Function>
     ensures { option_copied result ≡ first_of (flat_map (defined m.now.functions) (inst_callees inst.now)) }
 {
     match &inst.kind {
-        Kind::Call { callee: Value::Global(name), .. } => defined_as(m, name),
+        Kind::Call {
+            callee: Value::Global(name),
+            ..
+        } => defined_as(m, name),
         _ => None,
     }
 }

@@ -137,7 +137,13 @@ pub fn pointer_slot(known: Option<Known>) -> Option<Slot>
     ensures { option_map slot_seen result ≡ spec.pointer_slot (option_map known_seen known) }
 {
     match known {
-        Some(Known::Stack(slot)) => { if is_pointer(slot.form) { Some(slot) } else { None } }
+        Some(Known::Stack(slot)) => {
+            if is_pointer(slot.form) {
+                Some(slot)
+            } else {
+                None
+            }
+        }
         _ => None,
     }
 }

@@ -109,7 +109,11 @@ impl<'a> Walk<'a> {
     }
 
     /// The register that takes an instruction's result is known from here on. The walk ends where nothing is known of it.
-    fn give(&mut self, register: &'a Option<Name>, known: Option<Known>) -> Result<bool, OutOfMemory>
+    fn give(
+        &mut self,
+        register: &'a Option<Name>,
+        known: Option<Known>,
+    ) -> Result<bool, OutOfMemory>
         ensures { IfOk result (λ goes. went goes (walk_seen self.new) ≡ option_map (λ k. spec.with_result register.now k (walk_seen self.old)) (option_map known_seen known)) }
     {
         let Some(known) = known else {
@@ -310,8 +314,18 @@ impl<'a> Walk<'a> {
         let register = &inst.result;
         match &inst.kind {
             Kind::Alloca { ty, .. } => self.give(register, new_slot(ty)),
-            Kind::Store { value, at, order: None, .. } => self.store(value, &at.value),
-            Kind::Load { ty, at, order: None, .. } => {
+            Kind::Store {
+                value,
+                at,
+                order: None,
+                ..
+            } => self.store(value, &at.value),
+            Kind::Load {
+                ty,
+                at,
+                order: None,
+                ..
+            } => {
                 let known = self.known_of(&at.value);
                 self.load(captures_of(region), register, form_of(ty), known)
             }

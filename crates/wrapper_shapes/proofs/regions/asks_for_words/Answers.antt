@@ -1,4 +1,4 @@
-use Rattle.std.proofs.Common.{◌≡◌, Bool, sym, ap, ◌∙◌, length, get_or, subst, ◌<◌}
+use Rattle.std.proofs.Common.{sym, ap, ◌∙◌, length, get_or, subst, ◌<◌}
 use Rattle.std.specs.List.{flat_map}
 use Rattle.ir_core.specs.declared.module.Block.{Block}
 use Rattle.ir_core.specs.Wrappers.{is_in, get_shared_variables, block_callees, inst_callees}

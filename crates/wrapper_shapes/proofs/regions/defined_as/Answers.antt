@@ -1,6 +1,5 @@
-use Rattle.std.proofs.Common.{Some, None, length, ◌==◌, ap, sym, ◌∙◌}
+use Rattle.std.proofs.Common.{length, ◌==◌, ap, sym, ◌∙◌}
 use Rattle.std.specs.Option.{option_copied}
-use Rattle.ir_core.specs.declared.module.Function.{Function}
 use Rattle.wrapper_shapes.proofs.RegionLaws.{no_blocks, no_function, with_some}
 use Rattle.wrapper_shapes.proofs.regions.defined_as.Goals as goal
 

@@ -1,4 +1,4 @@
-use Rattle.std.proofs.Common.{Some, None, map, ap, sym, ◌∙◌}
+use Rattle.std.proofs.Common.{Some, None, ap, sym, ◌∙◌}
 use Rattle.std.specs.Prelude.{slice_get}
 use Rattle.ir_core.specs.declared.module.Module.{Module}
 use Rattle.ir_core.specs.Places.{function_name}
