@@ -1,0 +1,4 @@
+pub mod ForkLaws
+pub mod PathLaws
+pub mod RegionLaws
+pub mod WalkLaws

@@ -1,0 +1,134 @@
+-- One more entry, one more read word, and one more instruction of a walk.
+use Rattle.std.proofs.Common.{◌≡◌, ℕ, zero, suc, ◌+◌, ◌<◌, ◌≤◌, arith, nat_lt, not, ◌&&◌, List, [], ◌∷◌, ◌++◌, length, take, drop, get_or, Bool, true, false, ◌||◌, ◌==◌, Option, Some, None, option_map, refl, sym, ap, ◌∙◌, add-one, if◌then◌else◌}
+use Rattle.std.specs.List.{list_any}
+use Rattle.std.specs.Prelude.{option_and_then}
+use Rattle.std.proofs.lemmas.Bool.{lt-ltb}
+use Rattle.std.proofs.lemmas.List.{drop_more}
+use Rattle.ir_core.specs.declared.instructions.Typed.{Typed}
+use Rattle.wrapper_shapes.specs.declared.slots.Form.{Form}
+use Rattle.std.specs.Borrow.{Bor}
+use Rattle.std.specs.Str.{bytes_eq}
+use Rattle.std.proofs.Math.Seq.{take-suc}
+use Rattle.ir_core.specs.Places.{Name}
+use Rattle.shapes.specs.Walk as walk
+use Rattle.wrapper_shapes.specs.declared.slots.Known.{Known}
+use Rattle.wrapper_shapes.specs.Seen.{Entry, known_after, known_seen, read_after, form_seen, forms_seen}
+
+abbrev Knowing : Type 0
+Knowing = Name → Option walk.Known
+
+abbrev pub with_entry : Entry → Knowing → Knowing
+with_entry e known = λ y. if bytes_eq e.0.now y then Some (known_seen e.1) else known y
+
+pub known_more : (known : Knowing) (es : List Entry) (e : Entry) → known_after known (es ++ e ∷ []) ≡ with_entry e (known_after known es)
+known_more known [] e = refl
+known_more known (d ∷ es) e = known_more (with_entry d known) es e
+
+pub known_next : (known : Knowing) (es : List Entry) (n : ℕ) (d e : Entry) → n < length es → e ≡ get_or es n d → known_after known (take (n + 1) es) ≡ with_entry e (known_after known (take n es))
+known_next known es n d e low is =
+    ap (λ k. known_after known (take k es)) (add-one n) ∙ ap (known_after known) (take-suc es n d low) ∙ known_more known (take n es) (get_or es n d)
+    ∙ ap (λ x. with_entry x (known_after known (take n es))) (sym is)
+
+-- ---- words that were read
+
+pub read_more : (read ks : List ℕ) (k : ℕ) → read_after read (ks ++ k ∷ []) ≡ k ∷ read_after read ks
+read_more read [] k = refl
+read_more read (j ∷ ks) k = read_more (j ∷ read) ks k
+
+pub among_after : (read ks : List ℕ) (k : ℕ) → walk.is_among (read_after read ks) k ≡ list_any (λ n. n == k) ks || walk.is_among read k
+among_after read [] k = refl
+among_after read (j ∷ ks) k = among_after (j ∷ read) ks k ∙ swap (list_any (λ n. n == k) ks) (j == k) (walk.is_among read k)
+  where
+    swap : (a b c : Bool) → a || (if b then true else c) ≡ (b || a) || c
+    swap true true c = refl
+    swap true false c = refl
+    swap false true c = refl
+    swap false false c = refl
+
+-- ---- look-ups
+
+abbrev known_in : List Entry → Name → Option walk.Known
+known_in = known_after walk.nothing_known
+
+seen_if : (b : Bool) (k : Known) (found : Option Known) (before : Option walk.Known) → option_map known_seen found ≡ before → option_map known_seen (if b then Some k else found) ≡ (if b then Some (known_seen k) else before)
+seen_if true k found before is = refl
+seen_if false k found before is = is
+
+-- what is found in one more entry
+pub found_next : (es : List Entry) (n : ℕ) (d : Entry) (x : Name) (found after : Option Known) (b : Bool) → n < length es → option_map known_seen found ≡ known_in (take n es) x →
+    b ≡ bytes_eq (get_or es n d).0.now x → after ≡ (if b then Some (get_or es n d).1 else found) → option_map known_seen after ≡ known_in (take (n + 1) es) x
+found_next es n d x found after b low so is then_ =
+    let e = get_or es n d in
+    ap (option_map known_seen) then_ ∙ seen_if b e.1 found (known_in (take n es) x) so ∙ ap (λ c. if c then Some (known_seen e.1) else known_in (take n es) x) is
+    ∙ sym (ap (λ (known : Knowing). known x) (known_next walk.nothing_known es n d e low refl))
+
+-- one more entry for a name
+pub set_next : (es after : List Entry) (k : Known) (s : Bor (List ℕ)) (x : Name) → after ≡ es ++ (s, k) ∷ [] → s.now ≡ x → known_in after ≡ (λ y. if bytes_eq x y then Some (known_seen k) else known_in es y)
+set_next es after k s x is name =
+    let with_name : Name → Knowing = λ z y. if bytes_eq z y then Some (known_seen k) else known_in es y in
+    ap known_in is ∙ known_more walk.nothing_known es (s, k) ∙ ap with_name name
+
+pub read_is : (ks : List ℕ) (k : ℕ) → list_any (λ n. n == k) ks ≡ walk.is_among (read_after [] ks) k
+read_is ks k = or_none (list_any (λ n. n == k) ks) ∙ sym (among_after [] ks k)
+  where
+    or_none : (b : Bool) → b ≡ (b || false)
+    or_none true = refl
+    or_none false = refl
+
+by_tests : {A : Type 0} (a b : Bool) (x : A) → a ≡ true → b ≡ false → Some x ≡ (if a && not b then Some x else None)
+by_tests true false x p q = refl
+by_tests false b x p q = let f : ⊥ = cc in absurd f
+by_tests true true x p q = let f : ⊥ = cc in absurd f
+
+-- a word that wasn't read before
+pub word_next : (captures place : ℕ) (w : walk.Walk) (x : Option Name) (f : walk.Form) (old after : List ℕ) → place < captures → walk.is_among w.read place ≡ false → w.read ≡ read_after [] old → after ≡ old ++ place ∷ [] →
+    Some (walk.with_result x (walk.Is (walk.Word place f)) (record w { read = read_after [] after })) ≡ walk.read_word captures w x place f
+word_next captures place w x f old after low new is more =
+    ap (λ read. Some (walk.with_result x (walk.Is (walk.Word place f)) (record w { read = read }))) (ap (read_after []) more ∙ read_more [] old place ∙ ap (λ read. place ∷ read) (sym is))
+    ∙ by_tests (nat_lt place captures) (walk.is_among w.read place) (walk.with_result x (walk.Is (walk.Word place f)) (record w { read = place ∷ w.read })) (lt-ltb place captures low) new
+
+-- ---- forms
+
+abbrev ahead : List Form → List walk.Form → List walk.Form
+ahead forms fs = forms_seen forms ++ fs
+
+appended : (forms : List Form) (f : Form) (fs : List walk.Form) → forms_seen forms ++ form_seen f ∷ fs ≡ forms_seen (forms ++ f ∷ []) ++ fs
+appended [] f fs = refl
+appended (g ∷ forms) f fs = ap (λ gs. form_seen g ∷ gs) (appended forms f fs)
+
+one_ahead : (forms : List Form) (f : Form) (o : Option (List walk.Form)) → option_map (ahead forms) (option_map (λ fs. form_seen f ∷ fs) o) ≡ option_map (ahead (forms ++ f ∷ [])) o
+one_ahead forms f None = refl
+one_ahead forms f (Some fs) = ap Some (appended forms f fs)
+
+module _ (w : walk.Walk) (words : List Typed) (n : ℕ) (d : Typed) (low : n < length words) where
+  abbrev here : Option walk.Form
+  here = walk.form_at n (walk.known_of w (get_or words n d).value)
+
+  opened : walk.forms_from w n (drop n words) ≡ option_and_then (λ f. option_map (λ fs. f ∷ fs) (walk.forms_from w (n + 1) (drop (n + 1) words))) here
+  opened = ap (walk.forms_from w n) (drop_more words n d low)
+
+  pub form_next : (all : Option (List walk.Form)) (forms after : List Form) (o : Option Form) (f : Form) → all ≡ option_map (ahead forms) (walk.forms_from w n (drop n words)) → o ≡ Some f → option_map form_seen o ≡ here → after ≡ forms ++ f ∷ [] →
+      all ≡ option_map (ahead after) (walk.forms_from w (n + 1) (drop (n + 1) words))
+  form_next all forms after o f so there is more =
+      let behind = walk.forms_from w (n + 1) (drop (n + 1) words) in
+      let found : here ≡ Some (form_seen f) = sym is ∙ ap (option_map form_seen) there in
+      so ∙ ap (option_map (ahead forms)) (opened ∙ ap (option_and_then (λ g. option_map (λ fs. g ∷ fs) behind)) found) ∙ one_ahead forms f behind ∙ ap (λ gs. option_map (ahead gs) behind) (sym more)
+
+  pub form_none : (all : Option (List walk.Form)) (forms : List Form) (o : Option Form) → all ≡ option_map (ahead forms) (walk.forms_from w n (drop n words)) → o ≡ None → option_map form_seen o ≡ here → all ≡ None
+  form_none all forms o so there is =
+      let behind = walk.forms_from w (n + 1) (drop (n + 1) words) in
+      let found : here ≡ None = sym is ∙ ap (option_map form_seen) there in
+      so ∙ ap (option_map (ahead forms)) (opened ∙ ap (option_and_then (λ g. option_map (λ fs. g ∷ fs) behind)) found)
+
+all_ahead : (fs : List walk.Form) → fs ++ [] ≡ fs
+all_ahead [] = refl
+all_ahead (f ∷ fs) = ap (λ gs. f ∷ gs) (all_ahead fs)
+
+pub form_end : (w : walk.Walk) (words : List Typed) (n : ℕ) (all : Option (List walk.Form)) (forms : List Form) → length words ≤ n → all ≡ option_map (ahead forms) (walk.forms_from w n (drop n words)) → Some (forms_seen forms) ≡ all
+form_end w words n all forms full so = sym (so ∙ ap (λ vs. option_map (ahead forms) (walk.forms_from w n vs)) (none_left words n full) ∙ ap Some (all_ahead (forms_seen forms)))
+  where
+    none_left : (vs : List Typed) (k : ℕ) → length vs ≤ k → drop k vs ≡ []
+    none_left [] zero low = refl
+    none_left [] (suc k) low = refl
+    none_left (v ∷ vs) zero low = let f : ⊥ = omega arith in absurd f
+    none_left (v ∷ vs) (suc k) low = none_left vs k (omega arith)

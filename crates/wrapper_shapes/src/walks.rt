@@ -1,0 +1,352 @@
+//! The walk over a wrapper's instructions.
+ghost use Rattle.std.specs.Prelude.{◌≡◌, ◌∷◌, [], option_map, IfOk, OnOk, None, ◌==◌, if◌then◌else◌};
+ghost use Rattle.std.specs.List.{list_any};
+ghost use Rattle.std.specs.Option.{option_copied};
+ghost use Rattle.ir_core.specs.FirstForm.{is_function, is_ptr};
+ghost use Rattle.ir_core.specs.Wrappers.{captures_of};
+ghost use Rattle.shapes.specs.Walk as spec;
+ghost use Rattle.wrapper_shapes.specs.Seen.{form_seen, forms_seen, given_seen, slot_seen, known_seen, known_after, read_after, walk_seen, went};
+
+use crate::slots::{
+    Form, Given, Known, Slot, address_in, area_in, converted, form_at, form_of, given_known,
+    is_slot_with, new_slot, number_at, stored_in, taken_from,
+};
+use ir_core::{Function, Inst, Kind, List, Name, OutOfMemory, Param, Rtl, Ty, Typed, Value};
+use name_tables::is_ptr;
+use std::alloc::Global;
+
+/// A name, and what is known of it.
+type Entry<'a> = (&'a [u8], Known);
+
+/// What the registers are, whether the captured words were asked for, which of them were read, and in which forms they were passed
+/// on. The last entry of a name counts.
+#[derive(Drop)]
+pub struct Walk<'a> {
+    known: List<Entry<'a>>,
+    asked: bool,
+    read: List<u64>,
+    passed: Option<List<Form>>,
+}
+
+fn last_known(entries: &[Entry], name: &[u8]) -> Option<Known>
+    ensures { option_map known_seen result ≡ known_after spec.nothing_known entries.now name.now }
+{
+    let mut found = None;
+    for (known_name, known) in entries {
+        if *known_name == name {
+            found = Some(*known);
+        }
+    }
+    found
+}
+
+pub fn is_function(name: &[u8], value: &Value) -> bool
+    ensures { result ≡ is_function name.now value.now }
+{
+    match value {
+        Value::Global(found) => found.as_slice() == name,
+        _ => false,
+    }
+}
+
+fn is_among(numbers: &[u64], number: u64) -> bool
+    ensures { result ≡ list_any (λ n. n == number) numbers.now }
+{
+    numbers.iter().any(|n| *n == number)
+}
+
+/// How many words a region function captures.
+pub fn captures_of(region: Option<&Function>) -> u64
+    ensures { result ≡ captures_of (option_copied region.entry) }
+{
+    match region {
+        None => 0,
+        Some(region) => region.params.len().saturating_sub(2) as u64,
+    }
+}
+
+impl<'a> Walk<'a> {
+    /// The walk before the first instruction: the two parameters of a wrapper are known.
+    pub fn first(alloc: Global, params: &'a [Param]) -> Result<Walk<'a>, OutOfMemory>
+        ensures { IfOk result (λ w. walk_seen w ≡ spec.first_walk params.now) }
+    {
+        let mut known = List::new(alloc);
+        if let [zero, thread] = params {
+            known.push((zero.name.as_slice(), Known::Is(Given::Zero)))?;
+            known.push((thread.name.as_slice(), Known::Is(Given::Thread)))?;
+        }
+        Ok(Walk {
+            known,
+            asked: false,
+            read: List::new(alloc),
+            passed: None,
+        })
+    }
+
+    fn known_of(&self, value: &Value) -> Option<Known>
+        ensures { option_map known_seen result ≡ spec.known_of (walk_seen self.now) value.now }
+    {
+        match value {
+            Value::Local(name) => last_known(self.known.as_slice(), name.as_slice()),
+            _ => None,
+        }
+    }
+
+    fn given_of(&self, value: &Value) -> Option<Given>
+        ensures { option_map given_seen result ≡ spec.given_of (walk_seen self.now) value.now }
+    {
+        match value {
+            Value::Int(n) => Some(Given::Number(*n)),
+            _ => given_known(self.known_of(value)),
+        }
+    }
+
+    fn set(&mut self, name: &'a Name, known: Known) -> Result<(), OutOfMemory>
+        ensures { OnOk result (walk_seen self.new ≡ spec.with_known name.now (known_seen known) (walk_seen self.old)) }
+    {
+        self.known.push((name.as_slice(), known))?;
+        Ok(())
+    }
+
+    /// The register that takes an instruction's result is known from here on. The walk ends where nothing is known of it.
+    fn give(
+        &mut self,
+        register: &'a Option<Name>,
+        known: Option<Known>,
+    ) -> Result<bool, OutOfMemory>
+        ensures { IfOk result (λ goes. went goes (walk_seen self.new) ≡ option_map (λ k. spec.with_result register.now k (walk_seen self.old)) (option_map known_seen known)) }
+    {
+        let Some(known) = known else {
+            return Ok(false);
+        };
+        if let Some(name) = register {
+            self.set(name, known)?;
+        }
+        Ok(true)
+    }
+
+    /// The register of a slot's address is that of this slot from here on.
+    fn put(&mut self, at: &'a Value, slot: Option<Slot>) -> Result<bool, OutOfMemory>
+        ensures { IfOk result (λ goes. went goes (walk_seen self.new) ≡ spec.with_slot at.now (walk_seen self.old) (option_map slot_seen slot)) }
+    {
+        match (at, slot) {
+            (Value::Local(name), Some(slot)) => {
+                self.set(name, Known::Stack(slot))?;
+                Ok(true)
+            }
+            _ => Ok(false),
+        }
+    }
+
+    // ---- stores and loads
+
+    fn store(&mut self, value: &'a Typed, at: &'a Value) -> Result<bool, OutOfMemory>
+        ensures { IfOk result (λ goes. went goes (walk_seen self.new) ≡ spec.with_slot at.now (walk_seen self.old) (spec.stored_in (spec.known_of (walk_seen self.old) at.now) (spec.given_of (walk_seen self.old) value.now.value) (spec.form_of value.now.ty))) }
+    {
+        let slot = stored_in(
+            self.known_of(at),
+            self.given_of(&value.value),
+            form_of(&value.ty),
+        );
+        self.put(at, slot)
+    }
+
+    fn has_read(&self, place: u64) -> bool
+        ensures { result ≡ spec.is_among (walk_seen self.now).read place }
+    {
+        is_among(self.read.as_slice(), place)
+    }
+
+    /// The word at a place below the number of captures, which wasn't read before.
+    fn read_word(
+        &mut self,
+        captures: u64,
+        register: &'a Option<Name>,
+        place: u64,
+        form: Form,
+    ) -> Result<bool, OutOfMemory>
+        ensures { IfOk result (λ goes. went goes (walk_seen self.new) ≡ spec.read_word captures (walk_seen self.old) register.now place (form_seen form)) }
+    {
+        if place < captures && !self.has_read(place) {
+            self.read.push(place)?;
+            self.give(register, Some(Known::Is(Given::Word(place, form))))
+        } else {
+            Ok(false)
+        }
+    }
+
+    fn load(
+        &mut self,
+        captures: u64,
+        register: &'a Option<Name>,
+        form: Option<Form>,
+        at: Option<Known>,
+    ) -> Result<bool, OutOfMemory>
+        ensures { IfOk result (λ goes. went goes (walk_seen self.new) ≡ spec.loaded captures (walk_seen self.old) register.now (option_map form_seen form) (option_map known_seen at)) }
+    {
+        let Some(form) = form else {
+            return Ok(false);
+        };
+        match at {
+            Some(Known::Stack(slot)) => self.give(register, taken_from(slot, form)),
+            Some(Known::Is(Given::Area)) => self.read_word(captures, register, 0, form),
+            Some(Known::Is(Given::Address(place))) => {
+                self.read_word(captures, register, place, form)
+            }
+            _ => Ok(false),
+        }
+    }
+
+    // ---- calls
+
+    /// The captured words are asked for, once.
+    fn ask(&mut self, args: &'a [Typed]) -> Result<bool, OutOfMemory>
+        ensures { IfOk result (λ goes. went goes (walk_seen self.new) ≡ spec.asks (walk_seen self.old) args.now) }
+    {
+        match args {
+            [at] => {
+                if self.asked {
+                    return Ok(false);
+                }
+                let slot = area_in(self.known_of(&at.value));
+                self.asked = true;
+                self.put(&at.value, slot)
+            }
+            _ => Ok(false),
+        }
+    }
+
+    /// The forms of the captured words, each in its place.
+    fn forms_of(&self, alloc: Global, words: &[Typed]) -> Result<Option<List<Form>>, OutOfMemory>
+        ensures { IfOk result (λ forms. option_map forms_seen forms ≡ spec.forms_from (walk_seen self.now) 0 words.now) }
+    {
+        let mut forms = List::new(alloc);
+        for (place, word) in words.iter().enumerate() {
+            match form_at(place as u64, self.known_of(&word.value)) {
+                None => return Ok(None),
+                Some(form) => forms.push(form)?,
+            }
+        }
+        Ok(Some(forms))
+    }
+
+    /// The thread's number, a zero, and the captured words: the forms of these.
+    fn passes(&self, alloc: Global, args: &[Typed]) -> Result<Option<List<Form>>, OutOfMemory>
+        ensures { IfOk result (λ forms. option_map forms_seen forms ≡ spec.passes (walk_seen self.now) args.now) }
+    {
+        match args {
+            [thread, bound, words @ ..] => {
+                if is_slot_with(Given::Thread, self.known_of(&thread.value))
+                    && is_slot_with(Given::Number(0), self.known_of(&bound.value))
+                {
+                    self.forms_of(alloc, words)
+                } else {
+                    Ok(None)
+                }
+            }
+            _ => Ok(None),
+        }
+    }
+
+    /// The region function is called, once.
+    fn call_region(&mut self, alloc: Global, args: &[Typed]) -> Result<bool, OutOfMemory>
+        ensures { IfOk result (λ goes. went goes (walk_seen self.new) ≡ spec.calls_region (walk_seen self.old) (walk_seen self.old).passed args.now) }
+    {
+        if self.passed.is_some() {
+            return Ok(false);
+        }
+        match self.passes(alloc, args)? {
+            None => Ok(false),
+            Some(forms) => {
+                self.passed = Some(forms);
+                Ok(true)
+            }
+        }
+    }
+
+    fn call(
+        &mut self,
+        alloc: Global,
+        region: Option<&Function>,
+        callee: &Value,
+        args: &'a [Typed],
+    ) -> Result<bool, OutOfMemory>
+        ensures { IfOk result (λ goes. went goes (walk_seen self.new) ≡ spec.called (option_copied region.entry) (walk_seen self.old) callee.now args.now) }
+    {
+        if is_function(Rtl::GetSharedVariables.name(), callee) {
+            return self.ask(args);
+        }
+        match region {
+            None => Ok(false),
+            Some(region) => {
+                if is_function(region.name.as_slice(), callee) {
+                    self.call_region(alloc, args)
+                } else {
+                    Ok(false)
+                }
+            }
+        }
+    }
+
+    // ---- addresses and conversions
+
+    fn goes_to(&self, ty: &Ty, base: &Value, path: &[Typed]) -> Option<Known>
+        ensures { option_map known_seen result ≡ (if is_ptr ty.now then spec.address_in (spec.given_of (walk_seen self.now) base.now) (spec.number_at path.now) else None) }
+    {
+        if is_ptr(ty) {
+            address_in(self.given_of(base), number_at(path))
+        } else {
+            None
+        }
+    }
+
+    // ---- the walk
+
+    /// Whether the walk goes on behind an instruction of a wrapper with this region function.
+    pub fn step(
+        &mut self,
+        alloc: Global,
+        region: Option<&Function>,
+        inst: &'a Inst,
+    ) -> Result<bool, OutOfMemory>
+        ensures { IfOk result (λ goes. went goes (walk_seen self.new) ≡ spec.step_kind (captures_of (option_copied region.entry)) (option_copied region.entry) (walk_seen self.old) inst.now.result inst.now.kind) }
+    {
+        let register = &inst.result;
+        match &inst.kind {
+            Kind::Alloca { ty, .. } => self.give(register, new_slot(ty)),
+            Kind::Store {
+                value,
+                at,
+                order: None,
+                ..
+            } => self.store(value, &at.value),
+            Kind::Load {
+                ty,
+                at,
+                order: None,
+                ..
+            } => {
+                let known = self.known_of(&at.value);
+                self.load(captures_of(region), register, form_of(ty), known)
+            }
+            Kind::Gep { ty, base, path, .. } => {
+                let known = self.goes_to(ty, &base.value, path.as_slice());
+                self.give(register, known)
+            }
+            Kind::Cast { op, from, to } => {
+                let known = converted(*op, self.given_of(&from.value), form_of(to));
+                self.give(register, known)
+            }
+            Kind::Call { callee, args, .. } => self.call(alloc, region, callee, args.as_slice()),
+            Kind::Ret { value: None } => Ok(true),
+            _ => Ok(false),
+        }
+    }
+
+    /// The forms in which the captured words were passed on.
+    pub fn into_passed(self) -> Option<List<Form>>
+        ensures { option_map forms_seen result ≡ (walk_seen self.entry).passed }
+    {
+        self.passed
+    }
+}
