@@ -81,16 +81,3 @@ six_rose status result own (inr (now, rose)) six = rose
 
 pub low_is_none : (n status : ℕ) → 5 ≤ n → status < 5 → status ≡ n → ⊥
 low_is_none n status high low same = omega arith
-
--- how a reply is written whose output is written, or isn't
-pub written_behind : {R : Type 0} (status result : ℕ) (o n : List ℕ) (out out' notes notes' : Option (List ℕ)) → Grows out out' o →
-    ((result ≡ status) × Grows notes notes' n) ⊎ ((result ≡ 6) × GrowsByFront notes notes' n × R) → IsWritten result status o n out out' notes notes'
-written_behind status result o n out out' notes notes' all (inl (same, whole)) = inl (same, all, whole)
-written_behind status result o n out out' notes notes' all (inr (six, front, rose)) = inr (inr (six, all, front))
-
-pub written_in_part : (status : ℕ) (o n : List ℕ) (out out' notes : Option (List ℕ)) → GrowsByFront out out' o → IsWritten 6 status o n out out' notes notes
-written_in_part status o n out out' notes front = inr (inl (refl, front, grows_nothing notes))
-
-pub status_or_rose : {G H A B : Type 0} (status result : ℕ) → ((result ≡ status) × G) ⊎ ((result ≡ 6) × H × B) → (result ≡ status) ⊎ ((result ≡ 6) × (A ⊎ B))
-status_or_rose status result (inl (same, whole)) = inl same
-status_or_rose status result (inr (six, front, rose)) = inr (six, inr rose)

@@ -1,5 +1,5 @@
 -- What is replied to the files of a replay, and which of them has failed.
-use Rattle.std.proofs.Common.{◌≡◌, ◌≢◌, ◌⊎◌, ℕ, ◌+◌, ◌<◌, ◌≤◌, List, [], length, map, take, Bool, true, false, Option, Some, None, IfSome, Result, Ok, Err, IfOk, IfErr, refl, sym, ap, ◌∙◌, subst, arith, inl, inr, codes}
+use Rattle.std.proofs.Common.{◌≡◌, ◌≢◌, ◌⊎◌, ℕ, ◌+◌, ◌≤◌, List, [], length, take, Bool, true, false, Option, Some, None, IfSome, Result, Ok, Err, IfOk, IfErr, refl, sym, ap, ◌∙◌, subst, arith, inl, inr, codes}
 use Rattle.std.specs.Str.{bytes_eq}
 use Rattle.std.proofs.lemmas.List.{length-map}
 use Rattle.std.proofs.lemmas.Slice.Eq.{bytes_eq-Decides}
@@ -25,13 +25,12 @@ use Rattle.interp.specs.declared.team.Team.{Team as TeamData}
 use Rattle.interp.specs.Teams.{team_seen}
 use Rattle.replay.specs.Turns.{turns, replayed, ReplayOf}
 use Rattle.replay.specs.Reports.{end_status}
-use Rattle.replay.specs.FaultNotes.{launch_note, schedule_note}
 use Rattle.replay.proofs.RunLaws.{replay_is_a_run}
 use Rattle.io_edge.specs.declared.transfer.ReadFault.{ReadFault}
 use Rattle.io_edge.specs.declared.transfer.ReadFault.TheVariants.{Failed}
 use Rattle.io_edge.specs.Outside.{Rose}
 use Rattle.opt_core.specs.declared.reply.Reply.{Reply}
-use Rattle.opt_core.specs.Answer.{Accepts, IsNotAccepted, IsTextRefused, OfText, IsNote}
+use Rattle.opt_core.specs.Answer.{Accepts, IsTextRefused, OfText}
 use Rattle.opt_core.specs.Replay.{Paths, IsRunReply, IsPairsReply, IsScheduleReply, IsLaunchReply, IsModuleReply, IsFilesReply, IsReplayAnswer, HasOneRisen, HasFailed, IsReplayFailure}
 use Rattle.opt_core.specs.ReplayStages.{IsReported, SpellsLaunch, HasRisenBehind}
 use Rattle.opt_core.proofs.Front.{of_read, accepts_whole, refused_whole}
@@ -39,23 +38,26 @@ use Rattle.opt_core.proofs.Front.{of_read, accepts_whole, refused_whole}
 -- ---- the steps of a schedule
 
 -- a team at its start, as it is seen
-pub starts_alike : (o m : Module) (l : Launch) (pairs : List Pair) (s : Team) → o ≡ m → s ≡ team_start o l → replayed o l.steps (turns 1 pairs) s ≡ ReplayOf m l pairs
-starts_alike o m l pairs s same start = ap (replayed o l.steps (turns 1 pairs)) start ∙ ap (λ n. ReplayOf n l pairs) same
+pub starts_alike : (o out m : Module) (l : Launch) (ps pairs : List Pair) (team : TeamData) → o ≡ out → out ≡ m → ps ≡ pairs → team_seen out team ≡ team_start out l → replayed o l.steps (turns 1 ps) (team_seen o team) ≡ ReplayOf m l pairs
+starts_alike o out m l ps pairs team same is listed start =
+    ap (λ n. replayed n l.steps (turns 1 ps) (team_seen n team)) same
+    ∙ ap (replayed out l.steps (turns 1 ps)) start
+    ∙ ap (λ n. ReplayOf n l ps) is
+    ∙ ap (ReplayOf m l) listed
 
 module _ (m : Module) (l : Launch) (pairs : List Pair) where
-  reported_by : (s : Team) (reply : Result Reply OutOfMemory) → ReplayOf (machine_off m) l pairs ≡ Ok s → IfOk reply (λ r. IsReported m l s pairs r.status r.out r.notes) → IfOk reply (λ r. IsRunReply m l pairs (Ok s) r.status r.out r.notes)
-  reported_by s (Ok r) e h = (replay_is_a_run (machine_off m) l pairs s e, h.0, h.1, h.2)
-  reported_by s (Err x) e h = tt
+  abbrev IsRunReplied : Result Team ScheduleFault → Result Reply OutOfMemory → Type 0
+  IsRunReplied x reply = IfOk reply (λ r. IsRunReply m l pairs x r.status r.out r.notes)
 
-  pub run_reply : (expected : Result Team ScheduleFault) (s : Team) (reply : Result Reply OutOfMemory) → expected ≡ ReplayOf (machine_off m) l pairs → expected ≡ Ok s → IfOk reply (λ r. IsReported m l s pairs r.status r.out r.notes) →
-      IfOk reply (λ r. IsRunReply m l pairs (ReplayOf (machine_off m) l pairs) r.status r.out r.notes)
-  run_reply expected s reply of is h =
+  reported_by : (o : Module) (team : TeamData) (reply : Result Reply OutOfMemory) → ReplayOf (machine_off m) l pairs ≡ Ok (team_seen o team) → IfOk reply (λ r. (n : Module) → IsReported m l (team_seen n team) pairs r.status r.out r.notes) → IsRunReplied (Ok (team_seen o team)) reply
+  reported_by o team (Ok r) e h = let k = h o in (replay_is_a_run (machine_off m) l pairs (team_seen o team) e, k.0, k.1, k.2)
+  reported_by o team (Err x) e h = tt
+
+  pub run_reply : (expected : Result Team ScheduleFault) (o : Module) (team : TeamData) (reply : Result Reply OutOfMemory) → expected ≡ ReplayOf (machine_off m) l pairs → expected ≡ Ok (team_seen o team) →
+      IfOk reply (λ r. (n : Module) → IsReported m l (team_seen n team) pairs r.status r.out r.notes) → IsRunReplied (ReplayOf (machine_off m) l pairs) reply
+  run_reply expected o team reply of is h =
       let e = sym of ∙ is in
-      subst (λ (x : Result Team ScheduleFault). IfOk reply (λ r. IsRunReply m l pairs x r.status r.out r.notes)) (sym e) (reported_by s reply e h)
-
-  pub run_refused : (expected : Result Team ScheduleFault) (fault : ScheduleFault) (reply : Result Reply OutOfMemory) → expected ≡ ReplayOf (machine_off m) l pairs → expected ≡ Err fault → IfOk reply (λ r. IsNote 4 (schedule_note fault) r.status r.out r.notes) →
-      IfOk reply (λ r. IsRunReply m l pairs (ReplayOf (machine_off m) l pairs) r.status r.out r.notes)
-  run_refused expected fault reply of is h = subst (λ (x : Result Team ScheduleFault). IfOk reply (λ r. IsRunReply m l pairs x r.status r.out r.notes)) (sym (sym of ∙ is)) h
+      subst (λ (x : Result Team ScheduleFault). IsRunReplied x reply) (sym e) (reported_by o team reply e h)
 
 -- ---- the text of a schedule
 
@@ -69,7 +71,12 @@ module _ (m : Module) (l : Launch) (text : List ℕ) (n : ℕ) (threads : n ≡ 
 
 -- ---- files
 
-pub schedule_whole : (m : Module) (l : Launch) (status : ℕ) (out notes text : List ℕ) → IsScheduleReply m l (take (schedule_limit + 1) text) status out notes → IsScheduleReply m l text status out notes
+-- what is read of a file up to a limit
+pub read_to : (held : Option (List ℕ)) (bytes slice : List ℕ) (n limit : ℕ) → n ≡ limit → slice ≡ bytes → IfSome held (λ content. bytes ≡ take n content) → IfSome held (λ content. slice ≡ take limit content)
+read_to None bytes slice n limit e same h = tt
+read_to (Some content) bytes slice n limit e same h = same ∙ h ∙ ap (λ k. take k content) e
+
+schedule_whole : (m : Module) (l : Launch) (status : ℕ) (out notes text : List ℕ) → IsScheduleReply m l (take (schedule_limit + 1) text) status out notes → IsScheduleReply m l text status out notes
 schedule_whole m l status out notes text = subst (λ (x : Result (List Pair) ScheduleFault). IsPairsReply m l x status out notes) (pairs_front (length (team_start (machine_off m) l).threads) text)
 
 launch_whole : (m : Module) (schedule : Option (List ℕ)) (status : ℕ) (out notes text : List ℕ) → IsLaunchReply m schedule (LaunchOf m (take (launch_limit + 1) text)) status out notes → IsLaunchReply m schedule (LaunchOf m text) status out notes
@@ -90,13 +97,6 @@ launch_reply m schedule text l reply form e h = subst (λ (x : Result Launch Lau
     by : (reply : Result Reply ReadFault) → IfOk reply (λ r. OfText schedule (λ t. IsScheduleReply m l t r.status r.out r.notes)) → IfOk reply (λ r. IsLaunchReply m schedule (Ok l) r.status r.out r.notes)
     by (Ok r) k = (launch_fits m form text l e, k)
     by (Err x) k = tt
-
-pub launch_fails : (m : Module) (text : List ℕ) (l : Launch) (R : Type 0) (reply : Result Reply ReadFault) → LaunchOf m text ≡ Ok l → IfErr reply (λ e. e ≡ Failed → R) → IfErr reply (λ e. e ≡ Failed → SpellsLaunch m text × R)
-launch_fails m text l R (Ok r) e h = tt
-launch_fails m text l R (Err x) e h = λ failed. ((l, e), h failed)
-
-pub launch_refused : (m : Module) (schedule : Option (List ℕ)) (text : List ℕ) (fault : LaunchFault) (r : Reply) → LaunchOf m text ≡ Err fault → IsNote 4 (launch_note fault) r.status r.out r.notes → IsLaunchReply m schedule (LaunchOf m text) r.status r.out r.notes
-launch_refused m schedule text fault r e = subst (λ (x : Result Launch LaunchFault). IsLaunchReply m schedule x r.status r.out r.notes) (sym e)
 
 -- ---- counts of faults
 

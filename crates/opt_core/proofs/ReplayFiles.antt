@@ -1,5 +1,5 @@
 -- The three files of a replay in memory.
-use Rattle.std.proofs.Common.{◌≡◌, ℕ, zero, suc, List, [], ◌∷◌, codes, Option, Some, Contains, refl, sym, subst, arith}
+use Rattle.std.proofs.Common.{◌≡◌, ℕ, List, [], ◌∷◌, codes, Option, Some, Contains, refl, sym, subst, arith}
 use Rattle.std.specs.List.{IsDistinct}
 use Rattle.std.specs.Str.{bytes_eq}
 use Rattle.io_edge.specs.declared.memory.NamedFile.{NamedFile}
@@ -11,7 +11,7 @@ names = codes "a.ll" ∷ codes "launch" ∷ codes "schedule" ∷ []
 
 pub are_distinct : (files : List NamedFile) → names_of files ≡ names → HaveDistinctNames files
 unfolding IsDistinct
-are_distinct files e = subst (IsDistinct bytes_eq) (sym e) ((refl, refl, tt), ((refl, tt), (tt, tt)))
+are_distinct files e = subst (IsDistinct bytes_eq) (sym e) ((refl, (refl, tt)), ((refl, tt), (tt, tt)))
 
 abbrev paths : Paths
 paths = record { «module» = codes "a.ll"; launch = codes "launch"; schedule = codes "schedule" }

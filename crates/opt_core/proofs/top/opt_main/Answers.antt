@@ -1,5 +1,5 @@
-use Rattle.std.proofs.Common.{[], refl, inl, inr}
-use Rattle.opt_core.proofs.Answers.{note_written, is_failure, not_failed}
+use Rattle.std.proofs.Common.{[], refl, inl, inr, arith}
+use Rattle.opt_core.proofs.Answers.{note_written, is_failure, not_five, six_rose, low_is_none}
 use Rattle.opt_core.proofs.top.opt_main.Goals as goal
 
 pub returns-in-Err-Failed-clause-told : goal.returns-in-Err-Failed-clause-told
@@ -10,5 +10,8 @@ pub returns-in-Err-Memory-clause-told : goal.returns-in-Err-Memory-clause-told
 returns-in-Err-Memory-clause-told g c =
     (7, [], _, inr (inr (refl, refl, refl)), note_written 7 c.note_of-in-Err-Memory.result _ (g.K.Sink.taken c.args.out.now) _ _ c.note_of-in-Err-Memory.ensures.written)
 
-pub returns-in-Ok-write_all-clause-input : goal.returns-in-Ok-write_all-clause-input
-returns-in-Ok-write_all-clause-input g c = not_failed c.in-Ok.reply.status c.note_of-in-Ok-write_all.result c.in-Ok.ensures.own c.note_of-in-Ok-write_all.ensures.written
+pub returns-in-Ok-clause-input : goal.returns-in-Ok-clause-input
+returns-in-Ok-clause-input g c = not_five c.in-Ok.reply.status c.write_reply.result (low_is_none 5 c.in-Ok.reply.status (omega arith) c.in-Ok.ensures.own) c.write_reply.ensures.sink
+
+pub returns-in-Ok-clause-sink : goal.returns-in-Ok-clause-sink
+returns-in-Ok-clause-sink g c = six_rose c.in-Ok.reply.status c.write_reply.result (low_is_none 6 c.in-Ok.reply.status (omega arith) c.in-Ok.ensures.own) c.write_reply.ensures.sink

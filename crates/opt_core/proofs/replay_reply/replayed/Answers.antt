@@ -1,0 +1,20 @@
+use Rattle.std.proofs.Common.{sym, subst}
+use Rattle.ir_core.specs.MachineOff.{machine_off}
+use Rattle.interp.specs.Teams.{AreThreads}
+use Rattle.interp_local.specs.Steps.{AreSized}
+use Rattle.interp_local.proofs.FirstForms.{sized_form}
+use Rattle.opt_core.proofs.ReplayAnswers.{starts_alike, run_reply}
+use Rattle.opt_core.proofs.replay_reply.replayed.Goals as goal
+
+pub replay-requires-clause-threads : goal.replay-requires-clause-threads
+replay-requires-clause-threads c = subst (λ n. AreThreads n c.args.team.threads.items) (sym c.indexed.ensures.same) c.requires.threads
+
+pub replay-requires-clause-sized : goal.replay-requires-clause-sized
+replay-requires-clause-sized c = subst AreSized (sym c.indexed.ensures.same) (sized_form c.args.out.now c.indexed.ensures.form).1
+
+pub returns-in-Ok : goal.returns-in-Ok
+returns-in-Ok c =
+    let m = c.args.m.now in
+    let l = c.args.l.now in
+    let alike = starts_alike c.indexed.result.now c.args.out.now (machine_off m) l c.as_slice.result.now c.args.pairs c.args.team c.indexed.ensures.same c.requires.out c.as_slice.ensures c.requires.start in
+    run_reply m l c.args.pairs _ c.indexed.result.now c.replay.new.team c.reported.result alike c.in-Ok.ensures.1 c.reported.ensures
