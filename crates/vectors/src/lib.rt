@@ -2,8 +2,12 @@
 #![tactic(auto)]
 
 #[cfg(test)]
+mod checking;
+#[cfg(test)]
 mod printing;
 #[cfg(test)]
 mod reading;
+#[cfg(test)]
+mod refused;
 #[cfg(test)]
 mod texts;

@@ -1,40 +1,11 @@
 //! Texts that are read and printed, and texts that are refused while they are read.
-use crate::texts::{BEFORE_SEVEN, BEHIND_SEVEN, REGION, REGION_CANONICAL, STORE_SEVEN};
-use ir_core::{Or, Refusal};
+use crate::refused::{is_refused_so, refusal_of, with_line};
+use crate::texts::{BEFORE_SEVEN, REGION, REGION_CANONICAL, STORE_SEVEN};
 use ir_print::print_module;
 use ir_read::read_module;
 use std::alloc::{AllocError, Global};
 use std::process::Abort;
 use std::test::Fail;
-
-/// The kernel that stores 7, with another line in place of its line 7.
-fn with_line(alloc: Global, line: &str) -> Result<Vec<u8>, AllocError> {
-    let mut text = Vec::from_slice(alloc, BEFORE_SEVEN.as_bytes())?;
-    text.extend_from_slice(line.as_bytes())?;
-    text.extend_from_slice(BEHIND_SEVEN.as_bytes())?;
-    Ok(text)
-}
-
-/// Why the text is refused.
-fn refusal_of(alloc: Global, text: &[u8]) -> Result<Option<Refusal>, AllocError> {
-    match read_module(alloc, text) {
-        Ok(_) => Ok(None),
-        Err(Or::Refused(refusal)) => Ok(Some(refusal)),
-        Err(Or::Memory) => Err(AllocError),
-    }
-}
-
-/// Whether the text is refused with this line.
-fn is_refused_so(alloc: Global, text: &[u8], want: &str) -> Result<bool, AllocError> {
-    let mut buffer = [0; 128];
-    match refusal_of(alloc, text)? {
-        Some(refusal) => {
-            let end = refusal.print(&mut buffer);
-            Ok(&buffer[..end] == want.as_bytes())
-        }
-        None => Ok(false),
-    }
-}
 
 #[test]
 fn refusals_of_a_line(rt: HostRuntime) -> Result<(), Fail> {
@@ -122,7 +93,7 @@ fn every_front_of_a_text(rt: HostRuntime) -> Result<(), Fail> {
     let text = STORE_SEVEN.as_bytes();
     let mut read: u32 = 0;
     for end in 0..text.len() {
-        if refusal_of(alloc, &text[..end])?.is_none() {
+        if read_module(alloc, &text[..end]).is_ok() {
             read = read.saturating_add(1);
         }
     }

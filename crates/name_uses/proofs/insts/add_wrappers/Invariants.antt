@@ -1,0 +1,9 @@
+use Rattle.std.proofs.Common.{◌≡◌, ◌++◌, take}
+use Rattle.std.specs.List.{flat_map}
+use Rattle.ir_tables.specs.Names.{names_seen}
+use Rattle.ir_core.specs.Wrappers.{inst_wrappers}
+use Rattle.shapes.specs.Insts.{insts_seen}
+use Rattle.name_uses.proofs.insts.add_wrappers.Given as goal
+
+abbrev pub invariant-loop-inst : goal.invariant-loop-inst
+invariant-loop-inst l = names_seen l.names ≡ names_seen l.initial.names ++ flat_map inst_wrappers (insts_seen (take l.inst-index l.insts))

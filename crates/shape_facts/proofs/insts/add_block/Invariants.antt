@@ -1,0 +1,7 @@
+use Rattle.std.proofs.Common.{◌≡◌, ◌++◌, take}
+use Rattle.shapes.specs.Facts.{insts_of}
+use Rattle.shapes.specs.Insts.{insts_seen, block_insts}
+use Rattle.shape_facts.proofs.insts.add_block.Given as goal
+
+abbrev pub invariant-loop-inst : goal.invariant-loop-inst
+invariant-loop-inst l = insts_seen l.insts ≡ insts_seen l.initial.insts ++ take l.inst-index l.block.insts

@@ -1,0 +1,10 @@
+pub mod Insts
+pub mod Facts
+pub mod Uses
+pub mod KernelShape
+pub mod Wrappers
+pub mod Walk
+pub mod CallPaths
+pub mod Limits
+pub mod Clauses
+pub mod Refusals
