@@ -71,121 +71,141 @@ fn answer_of(alloc: Global, launch: &[u8], schedule: &[u8]) -> Result<Answer, Al
     Ok(Answer { status, out, notes })
 }
 
-// Launches and schedules, with the status and what is written.
-const ROWS: [(&str, &str, u8, &str, &str); 15] = [
-    (
-        LAUNCH,
-        "1 6\n0 4\n",
-        0,
-        "mode none\nend ended\nmemory 0 07000000\nschedule 2\n1 6\n0 4\n",
-        "",
-    ),
-    (
-        LAUNCH,
-        "1 6\n",
-        10,
-        "mode none\nend open\nmemory 0 07000000\nschedule 1\n1 6\n",
-        "",
-    ),
-    (
-        "kernel k\nthreads 1\nsteps 100\narg zeros 2\n",
-        "1 4\n",
-        8,
-        "mode none\nend trapped 1 line 7 OutOfBlock\nmemory 0 0000\nschedule 1\n1 4\n",
-        "",
-    ),
-    (
-        LAUNCH,
-        "1 6\n1\n",
-        4,
-        "",
-        "ompopt: schedule: line_form at line 2 step 0\n",
-    ),
-    (
-        LAUNCH,
-        "2 1\n",
-        4,
-        "",
-        "ompopt: schedule: thread_range at line 1 step 0\n",
-    ),
-    (
-        LAUNCH,
-        "0 4\n0 1\n",
-        4,
-        "",
-        "ompopt: schedule: not_ready at line 2 step 1\n",
-    ),
-    (
-        "kernel k\nthreads 1\nsteps 5\narg zeros 4\n",
-        "1 6\n",
-        4,
-        "",
-        "ompopt: schedule: over_bound at line 1 step 6\n",
-    ),
-    (
-        "# k\nkernel\n",
-        "",
-        4,
-        "",
-        "ompopt: launch: line_form at line 2\n",
-    ),
-    (
-        "kernel j\n",
-        "",
-        4,
-        "",
-        "ompopt: launch: no_kernel at line 1\n",
-    ),
-    (
-        "kernel k\nthreads 65\n",
-        "",
-        4,
-        "",
-        "ompopt: launch: threads_range at line 2\n",
-    ),
-    (
-        "kernel k\nthreads 1\nsteps 0\n",
-        "",
-        4,
-        "",
-        "ompopt: launch: steps_range at line 3\n",
-    ),
-    (
-        "kernel k\nthreads 1\nsteps 100\n",
-        "",
-        4,
-        "",
-        "ompopt: launch: argument_count at line 4\n",
-    ),
-    (
-        "kernel k\nthreads 1\nsteps 100\narg int 4\n",
-        "",
-        4,
-        "",
-        "ompopt: launch: argument_form at line 4\n",
-    ),
-    (
-        "kernel k\nthreads 1\nsteps 100\narg zeros 1048577\n",
-        "",
-        4,
-        "",
-        "ompopt: launch: argument_size at line 4\n",
-    ),
-    ("", "", 4, "", "ompopt: launch: line_form at line 1\n"),
+// A launch and a schedule, with the status and what is written.
+struct Row {
+    launch: &'static str,
+    schedule: &'static str,
+    status: u8,
+    out: &'static str,
+    notes: &'static str,
+}
+
+const ROWS: [Row; 15] = [
+    Row {
+        launch: LAUNCH,
+        schedule: "1 6\n0 4\n",
+        status: 0,
+        out: "mode none\nend ended\nmemory 0 07000000\nschedule 2\n1 6\n0 4\n",
+        notes: "",
+    },
+    Row {
+        launch: LAUNCH,
+        schedule: "1 6\n",
+        status: 10,
+        out: "mode none\nend open\nmemory 0 07000000\nschedule 1\n1 6\n",
+        notes: "",
+    },
+    Row {
+        launch: "kernel k\nthreads 1\nsteps 100\narg zeros 2\n",
+        schedule: "1 4\n",
+        status: 8,
+        out: "mode none\nend trapped 1 line 7 OutOfBlock\nmemory 0 0000\nschedule 1\n1 4\n",
+        notes: "",
+    },
+    Row {
+        launch: LAUNCH,
+        schedule: "1 6\n1\n",
+        status: 4,
+        out: "",
+        notes: "ompopt: schedule: line_form at line 2 step 0\n",
+    },
+    Row {
+        launch: LAUNCH,
+        schedule: "2 1\n",
+        status: 4,
+        out: "",
+        notes: "ompopt: schedule: thread_range at line 1 step 0\n",
+    },
+    Row {
+        launch: LAUNCH,
+        schedule: "0 4\n0 1\n",
+        status: 4,
+        out: "",
+        notes: "ompopt: schedule: not_ready at line 2 step 1\n",
+    },
+    Row {
+        launch: "kernel k\nthreads 1\nsteps 5\narg zeros 4\n",
+        schedule: "1 6\n",
+        status: 4,
+        out: "",
+        notes: "ompopt: schedule: over_bound at line 1 step 6\n",
+    },
+    Row {
+        launch: "# k\nkernel\n",
+        schedule: "",
+        status: 4,
+        out: "",
+        notes: "ompopt: launch: line_form at line 2\n",
+    },
+    Row {
+        launch: "kernel j\n",
+        schedule: "",
+        status: 4,
+        out: "",
+        notes: "ompopt: launch: no_kernel at line 1\n",
+    },
+    Row {
+        launch: "kernel k\nthreads 65\n",
+        schedule: "",
+        status: 4,
+        out: "",
+        notes: "ompopt: launch: threads_range at line 2\n",
+    },
+    Row {
+        launch: "kernel k\nthreads 1\nsteps 0\n",
+        schedule: "",
+        status: 4,
+        out: "",
+        notes: "ompopt: launch: steps_range at line 3\n",
+    },
+    Row {
+        launch: "kernel k\nthreads 1\nsteps 100\n",
+        schedule: "",
+        status: 4,
+        out: "",
+        notes: "ompopt: launch: argument_count at line 4\n",
+    },
+    Row {
+        launch: "kernel k\nthreads 1\nsteps 100\narg int 4\n",
+        schedule: "",
+        status: 4,
+        out: "",
+        notes: "ompopt: launch: argument_form at line 4\n",
+    },
+    Row {
+        launch: "kernel k\nthreads 1\nsteps 100\narg zeros 1048577\n",
+        schedule: "",
+        status: 4,
+        out: "",
+        notes: "ompopt: launch: argument_size at line 4\n",
+    },
+    Row {
+        launch: "",
+        schedule: "",
+        status: 4,
+        out: "",
+        notes: "ompopt: launch: line_form at line 1\n",
+    },
 ];
+
+// Whether the answer to the row's texts is what the row says.
+fn is_answered(alloc: Global, row: &Row) -> Result<bool, AllocError> {
+    let answer = answer_of(alloc, row.launch.as_bytes(), row.schedule.as_bytes())?;
+    Ok(
+        answer.status == row.status
+            && answer.out.as_slice() == row.out.as_bytes()
+            && answer.notes.as_slice() == row.notes.as_bytes(),
+    )
+}
 
 #[test]
 fn launches_and_schedules(rt: HostRuntime) -> Result<(), Fail> {
-    for (launch, schedule, status, out, notes) in ROWS {
-        let answer = answer_of(rt.alloc(), launch.as_bytes(), schedule.as_bytes())?;
-        assert_eq!(rt; answer.status, status, "at {launch}{schedule}");
+    for row in &ROWS {
         assert!(rt;
-            answer.out.as_slice() == out.as_bytes(),
-            "at {launch}{schedule}"
-        );
-        assert!(rt;
-            answer.notes.as_slice() == notes.as_bytes(),
-            "at {launch}{schedule}"
+            is_answered(rt.alloc(), row)?,
+            "at {}{}",
+            row.launch,
+            row.schedule
         );
     }
     Ok(())
@@ -196,15 +216,29 @@ fn long_text(alloc: Global, size: usize) -> Result<Vec<u8>, AllocError> {
     vec![in alloc; b'#'; size]
 }
 
+// Whether the notes for these texts are this line.
+fn is_noted(
+    alloc: Global,
+    launch: &[u8],
+    schedule: &[u8],
+    line: &[u8],
+) -> Result<bool, AllocError> {
+    let answer = answer_of(alloc, launch, schedule)?;
+    Ok(answer.notes.as_slice() == line)
+}
+
 #[test]
-fn texts_that_are_too_long(rt: HostRuntime) -> Result<(), Fail> {
+fn launches_that_are_too_long(rt: HostRuntime) -> Result<(), Fail> {
     let launch = long_text(rt.alloc(), 4_194_305)?;
-    let answer = answer_of(rt.alloc(), launch.as_slice(), b"".as_slice())?;
-    let want = b"ompopt: launch: text_size at line 1\n".as_slice();
-    assert!(rt; answer.notes.as_slice() == want);
+    let line = b"ompopt: launch: text_size at line 1\n".as_slice();
+    assert!(rt; is_noted(rt.alloc(), launch.as_slice(), b"".as_slice(), line)?);
+    Ok(())
+}
+
+#[test]
+fn schedules_that_are_too_long(rt: HostRuntime) -> Result<(), Fail> {
     let schedule = long_text(rt.alloc(), 33_554_433)?;
-    let answer = answer_of(rt.alloc(), LAUNCH.as_bytes(), schedule.as_slice())?;
-    let want = b"ompopt: schedule: text_size at line 1 step 0\n".as_slice();
-    assert!(rt; answer.notes.as_slice() == want);
+    let line = b"ompopt: schedule: text_size at line 1 step 0\n".as_slice();
+    assert!(rt; is_noted(rt.alloc(), LAUNCH.as_bytes(), schedule.as_slice(), line)?);
     Ok(())
 }
