@@ -1,33 +1,19 @@
 -- One more entry, one more read word, and one more instruction of a walk.
-use Rattle.std.proofs.Common.{◌≡◌, ℕ, zero, suc, ◌+◌, ◌<◌, ◌≤◌, arith, nat_lt, not, ◌&&◌, List, [], ◌∷◌, ◌++◌, length, take, drop, get_or, Bool, true, false, ◌||◌, ◌==◌, Option, Some, None, option_map, refl, sym, ap, ◌∙◌, add-one, if◌then◌else◌}
+use Rattle.std.proofs.Common.{Vec, Global, Bool, if◌then◌else◌, ◌≡◌, ℕ, zero, suc, ◌+◌, ◌<◌, ◌≤◌, arith, nat_lt, not, ◌&&◌, List, [], ◌∷◌, ◌++◌, length, drop, get_or, Bool, true, false, ◌||◌, ◌==◌, Option, Some, None, option_map, refl, sym, ap, ◌∙◌, if◌then◌else◌}
 use Rattle.std.specs.List.{list_any}
 use Rattle.std.specs.Prelude.{option_and_then}
 use Rattle.std.proofs.lemmas.Bool.{lt-ltb}
 use Rattle.std.proofs.lemmas.List.{drop_more}
 use Rattle.ir_core.specs.declared.instructions.Typed.{Typed}
 use Rattle.wrapper_shapes.specs.declared.slots.Form.{Form}
-use Rattle.std.specs.Borrow.{Bor}
 use Rattle.std.specs.Str.{bytes_eq}
-use Rattle.std.proofs.Math.Seq.{take-suc}
+use Rattle.std.specs.Map.{lookup}
+use Rattle.indexmap.specs.IndexMap.{insert_entry}
+use Rattle.ir_tables.proofs.Places.{lookup-insert, same_turned}
 use Rattle.ir_core.specs.Places.{Name}
 use Rattle.shapes.specs.Walk as walk
 use Rattle.wrapper_shapes.specs.declared.slots.Known.{Known}
-use Rattle.wrapper_shapes.specs.Seen.{Entry, known_after, known_seen, read_after, form_seen, forms_seen}
-
-abbrev Knowing : Type 0
-Knowing = Name → Option walk.Known
-
-abbrev pub with_entry : Entry → Knowing → Knowing
-with_entry e known = λ y. if bytes_eq e.0.now y then Some (known_seen e.1) else known y
-
-pub known_more : (known : Knowing) (es : List Entry) (e : Entry) → known_after known (es ++ e ∷ []) ≡ with_entry e (known_after known es)
-known_more known [] e = refl
-known_more known (d ∷ es) e = known_more (with_entry d known) es e
-
-pub known_next : (known : Knowing) (es : List Entry) (n : ℕ) (d e : Entry) → n < length es → e ≡ get_or es n d → known_after known (take (n + 1) es) ≡ with_entry e (known_after known (take n es))
-known_next known es n d e low is =
-    ap (λ k. known_after known (take k es)) (add-one n) ∙ ap (known_after known) (take-suc es n d low) ∙ known_more known (take n es) (get_or es n d)
-    ∙ ap (λ x. with_entry x (known_after known (take n es))) (sym is)
+use Rattle.wrapper_shapes.specs.Seen.{known_seen, read_after, form_seen, forms_seen}
 
 -- ---- words that were read
 
@@ -47,26 +33,32 @@ among_after read (j ∷ ks) k = among_after (j ∷ read) ks k ∙ swap (list_any
 
 -- ---- look-ups
 
-abbrev known_in : List Entry → Name → Option walk.Known
-known_in = known_after walk.nothing_known
+abbrev items : Vec ℕ Global → Name
+items k = k.items
 
-seen_if : (b : Bool) (k : Known) (found : Option Known) (before : Option walk.Known) → option_map known_seen found ≡ before → option_map known_seen (if b then Some k else found) ≡ (if b then Some (known_seen k) else before)
-seen_if true k found before is = refl
-seen_if false k found before is = is
+abbrev same_key : Vec ℕ Global → Vec ℕ Global → Bool
+same_key a b = bytes_eq a.items b.items
 
--- what is found in one more entry
-pub found_next : (es : List Entry) (n : ℕ) (d : Entry) (x : Name) (found after : Option Known) (b : Bool) → n < length es → option_map known_seen found ≡ known_in (take n es) x →
-    b ≡ bytes_eq (get_or es n d).0.now x → after ≡ (if b then Some (get_or es n d).1 else found) → option_map known_seen after ≡ known_in (take (n + 1) es) x
-found_next es n d x found after b low so is then_ =
-    let e = get_or es n d in
-    ap (option_map known_seen) then_ ∙ seen_if b e.1 found (known_in (take n es) x) so ∙ ap (λ c. if c then Some (known_seen e.1) else known_in (take n es) x) is
-    ∙ sym (ap (λ (known : Knowing). known x) (known_next walk.nothing_known es n d e low refl))
+abbrev found : List (Vec ℕ Global × Known) → Name → Option Known
+found es y = lookup (λ (k : Vec ℕ Global). bytes_eq y k.items) es
+
+seen_if : (b : Bool) (k : Known) (o : Option Known) → option_map known_seen (if b then Some k else o) ≡ (if b then Some (known_seen k) else option_map known_seen o)
+seen_if true k o = refl
+seen_if false k o = refl
+
+next_at : (es after : List (Vec ℕ Global × Known)) (key : Vec ℕ Global) (k : Known) (x : Name) → after ≡ insert_entry same_key es key k → key.items ≡ x → (y : Name) →
+    option_map known_seen (found after y) ≡ (if bytes_eq x y then Some (known_seen k) else option_map known_seen (found es y))
+next_at es after key k x is name y =
+    ap (λ ds. option_map known_seen (found ds y)) is
+    ∙ ap (option_map known_seen) (lookup-insert items key k y es)
+    ∙ ap (λ (z : Name). option_map known_seen (if bytes_eq y z then Some k else found es y)) name
+    ∙ ap (λ (b : Bool). option_map known_seen (if b then Some k else found es y)) (same_turned y x)
+    ∙ seen_if (bytes_eq x y) k (found es y)
 
 -- one more entry for a name
-pub set_next : (es after : List Entry) (k : Known) (s : Bor (List ℕ)) (x : Name) → after ≡ es ++ (s, k) ∷ [] → s.now ≡ x → known_in after ≡ (λ y. if bytes_eq x y then Some (known_seen k) else known_in es y)
-set_next es after k s x is name =
-    let with_name : Name → Knowing = λ z y. if bytes_eq z y then Some (known_seen k) else known_in es y in
-    ap known_in is ∙ known_more walk.nothing_known es (s, k) ∙ ap with_name name
+pub set_next : (es after : List (Vec ℕ Global × Known)) (key : Vec ℕ Global) (k : Known) (x : Name) → after ≡ insert_entry same_key es key k → key.items ≡ x →
+    ◌≡◌ {A = Name → Option walk.Known} (λ y. option_map known_seen (found after y)) (λ y. if bytes_eq x y then Some (known_seen k) else option_map known_seen (found es y))
+set_next es after key k x is name = λ i y. next_at es after key k x is name y i
 
 pub read_is : (ks : List ℕ) (k : ℕ) → list_any (λ n. n == k) ks ≡ walk.is_among (read_after [] ks) k
 read_is ks k = or_none (list_any (λ n. n == k) ks) ∙ sym (among_after [] ks k)

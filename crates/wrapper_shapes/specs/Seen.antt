@@ -1,7 +1,10 @@
 -- How the code holds what is known of a wrapper's registers.
-use Rattle.std.specs.Prelude.{ℕ, List, [], ◌∷◌, map, Bool, true, false, Option, Some, None, option_map, if◌then◌else◌}
+use Rattle.std.specs.Prelude.{ℕ, List, [], ◌∷◌, map, Bool, true, false, Option, Some, None, option_map}
 use Rattle.std.specs.Borrow.{Bor}
 use Rattle.std.specs.Str.{bytes_eq}
+use Rattle.std.specs.declared.alloc.Global.{Global}
+use Rattle.std.specs.declared.vec.Vec.{Vec}
+use Rattle.indexmap.specs.IndexMap.{IndexMap, get_by}
 use Rattle.std.specs.Option.{option_copied}
 use Rattle.ir_core.specs.declared.instructions.Inst.{Inst}
 use Rattle.ir_core.specs.declared.module.Function.{Function}
@@ -41,21 +44,16 @@ known_seen (Is g) = walk.Is (given_seen g)
 
 -- ---- the walk
 
--- a name, and what is known of it
-abbrev pub Entry : Type 0
-Entry = Bor (List ℕ) × Known
-
--- the last entry of a name counts
-abbrev pub known_after : (Name → Option walk.Known) → List Entry → Name → Option walk.Known
-known_after known [] = known
-known_after known (e ∷ es) = known_after (λ y. if bytes_eq e.0.now y then Some (known_seen e.1) else known y) es
+-- what a table says of a name
+abbrev pub known_in : {S : Type 0} → IndexMap (Vec ℕ Global) Known S → Name → Option walk.Known
+known_in table x = option_map known_seen (get_by (λ (k : Vec ℕ Global). bytes_eq x k.items) table)
 
 abbrev pub read_after : List ℕ → List ℕ → List ℕ
 read_after read [] = read
 read_after read (k ∷ ks) = read_after (k ∷ read) ks
 
 abbrev pub walk_seen : Walk → walk.Walk
-walk_seen w = record { known = known_after walk.nothing_known w.known; asked = w.asked; read = read_after [] w.read; passed = option_map forms_seen w.passed }
+walk_seen w = record { known = known_in w.known; asked = w.asked; read = read_after [] w.read; passed = option_map forms_seen w.passed }
 
 -- a walk that goes on, or doesn't
 abbrev pub went : Bool → walk.Walk → Option walk.Walk

@@ -13,11 +13,11 @@ use shape_facts::rule;
 use std::alloc::Global;
 
 /// What is told of the first of a wrapper's instructions at which the walk fails.
-pub fn of_walk<'a>(
+pub fn of_walk(
     alloc: Global,
     region: Option<&Function>,
-    params: &'a [Param],
-    insts: &[&'a Inst],
+    params: &[Param],
+    insts: &[&Inst],
 ) -> Result<Option<Refusal>, OutOfMemory>
     ensures { IfOk result (λ r. r ≡ least (spec.failing (step_for (option_copied region.entry)) (insts_seen insts.now) (spec.first_walk params.now))) }
 {
@@ -31,11 +31,11 @@ pub fn of_walk<'a>(
 }
 
 /// The forms in which a wrapper with these instructions passes the captured words on; none where its walk fails, or it passes none.
-pub fn forms_passed<'a>(
+pub fn forms_passed(
     alloc: Global,
     region: Option<&Function>,
-    params: &'a [Param],
-    insts: &[&'a Inst],
+    params: &[Param],
+    insts: &[&Inst],
 ) -> Result<Option<List<Form>>, OutOfMemory>
     ensures { IfOk result (λ forms. option_map forms_seen forms ≡ option_and_then (λ w. w.passed) (spec.walked (step_for (option_copied region.entry)) (insts_seen insts.now) (spec.first_walk params.now))) }
 {

@@ -5,39 +5,31 @@ ghost use Rattle.std.specs.Option.{option_copied};
 ghost use Rattle.ir_core.specs.FirstForm.{is_function, is_ptr};
 ghost use Rattle.ir_core.specs.Wrappers.{captures_of};
 ghost use Rattle.shapes.specs.Walk as spec;
-ghost use Rattle.wrapper_shapes.specs.Seen.{form_seen, forms_seen, given_seen, slot_seen, known_seen, known_after, read_after, walk_seen, went};
+ghost use Rattle.wrapper_shapes.specs.Seen.{form_seen, forms_seen, given_seen, slot_seen, known_seen, known_in, read_after, walk_seen, went};
 
 use crate::slots::{
     Form, Given, Known, Slot, address_in, area_in, converted, form_at, form_of, given_known,
     is_slot_with, new_slot, number_at, stored_in, taken_from,
 };
+use indexmap::IndexMap;
 use ir_core::{Function, Inst, Kind, List, Name, OutOfMemory, Param, Rtl, Ty, Typed, Value};
 use name_tables::is_ptr;
 use std::alloc::Global;
 
-/// A name, and what is known of it.
-type Entry<'a> = (&'a [u8], Known);
-
 /// What the registers are, whether the captured words were asked for, which of them were read, and in which forms they were passed
-/// on. The last entry of a name counts.
+/// on.
 #[derive(Drop)]
-pub struct Walk<'a> {
-    known: List<Entry<'a>>,
+pub struct Walk {
+    known: IndexMap<Vec<u8>, Known>,
     asked: bool,
     read: List<u64>,
     passed: Option<List<Form>>,
 }
 
-fn last_known(entries: &[Entry], name: &[u8]) -> Option<Known>
-    ensures { option_map known_seen result ≡ known_after spec.nothing_known entries.now name.now }
+fn known_in(known: &IndexMap<Vec<u8>, Known>, name: &[u8]) -> Option<Known>
+    ensures { option_map known_seen result ≡ known_in known.now name.now }
 {
-    let mut found = None;
-    for (known_name, known) in entries {
-        if *known_name == name {
-            found = Some(*known);
-        }
-    }
-    found
+    known.get(name).copied()
 }
 
 pub fn is_function(name: &[u8], value: &Value) -> bool
@@ -65,29 +57,39 @@ pub fn captures_of(region: Option<&Function>) -> u64
     }
 }
 
-impl<'a> Walk<'a> {
-    /// The walk before the first instruction: the two parameters of a wrapper are known.
-    pub fn first(alloc: Global, params: &'a [Param]) -> Result<Walk<'a>, OutOfMemory>
-        ensures { IfOk result (λ w. walk_seen w ≡ spec.first_walk params.now) }
+impl Walk {
+    /// A walk to which nothing is known.
+    fn empty(alloc: Global) -> Walk
+        ensures { walk_seen result ≡ spec.no_walk }
     {
-        let mut known = List::new(alloc);
-        if let [zero, thread] = params {
-            known.push((zero.name.as_slice(), Known::Is(Given::Zero)))?;
-            known.push((thread.name.as_slice(), Known::Is(Given::Thread)))?;
-        }
-        Ok(Walk {
-            known,
+        Walk {
+            known: IndexMap::new(alloc),
             asked: false,
             read: List::new(alloc),
             passed: None,
-        })
+        }
+    }
+
+    /// The walk before the first instruction: the two parameters of a wrapper are known.
+    pub fn first(alloc: Global, params: &[Param]) -> Result<Walk, OutOfMemory>
+        ensures { IfOk result (λ w. walk_seen w ≡ spec.first_walk params.now) }
+    {
+        let mut walk = Walk::empty(alloc);
+        match params {
+            [zero, thread] => {
+                walk.set(alloc, &zero.name, Known::Is(Given::Zero))?;
+                walk.set(alloc, &thread.name, Known::Is(Given::Thread))?;
+                Ok(walk)
+            }
+            _ => Ok(walk),
+        }
     }
 
     fn known_of(&self, value: &Value) -> Option<Known>
         ensures { option_map known_seen result ≡ spec.known_of (walk_seen self.now) value.now }
     {
         match value {
-            Value::Local(name) => last_known(self.known.as_slice(), name.as_slice()),
+            Value::Local(name) => known_in(&self.known, name.as_slice()),
             _ => None,
         }
     }
@@ -101,17 +103,21 @@ impl<'a> Walk<'a> {
         }
     }
 
-    fn set(&mut self, name: &'a Name, known: Known) -> Result<(), OutOfMemory>
+    fn set(&mut self, alloc: Global, name: &Name, known: Known) -> Result<(), OutOfMemory>
         ensures { OnOk result (walk_seen self.new ≡ spec.with_known name.now (known_seen known) (walk_seen self.old)) }
     {
-        self.known.push((name.as_slice(), known))?;
-        Ok(())
+        let key = Vec::from_slice(alloc, name.as_slice())?;
+        match self.known.insert(key, known) {
+            Ok(_) => Ok(()),
+            Err(_) => Err(OutOfMemory),
+        }
     }
 
     /// The register that takes an instruction's result is known from here on. The walk ends where nothing is known of it.
     fn give(
         &mut self,
-        register: &'a Option<Name>,
+        alloc: Global,
+        register: &Option<Name>,
         known: Option<Known>,
     ) -> Result<bool, OutOfMemory>
         ensures { IfOk result (λ goes. went goes (walk_seen self.new) ≡ option_map (λ k. spec.with_result register.now k (walk_seen self.old)) (option_map known_seen known)) }
@@ -120,18 +126,18 @@ impl<'a> Walk<'a> {
             return Ok(false);
         };
         if let Some(name) = register {
-            self.set(name, known)?;
+            self.set(alloc, name, known)?;
         }
         Ok(true)
     }
 
     /// The register of a slot's address is that of this slot from here on.
-    fn put(&mut self, at: &'a Value, slot: Option<Slot>) -> Result<bool, OutOfMemory>
+    fn put(&mut self, alloc: Global, at: &Value, slot: Option<Slot>) -> Result<bool, OutOfMemory>
         ensures { IfOk result (λ goes. went goes (walk_seen self.new) ≡ spec.with_slot at.now (walk_seen self.old) (option_map slot_seen slot)) }
     {
         match (at, slot) {
             (Value::Local(name), Some(slot)) => {
-                self.set(name, Known::Stack(slot))?;
+                self.set(alloc, name, Known::Stack(slot))?;
                 Ok(true)
             }
             _ => Ok(false),
@@ -140,7 +146,7 @@ impl<'a> Walk<'a> {
 
     // ---- stores and loads
 
-    fn store(&mut self, value: &'a Typed, at: &'a Value) -> Result<bool, OutOfMemory>
+    fn store(&mut self, alloc: Global, value: &Typed, at: &Value) -> Result<bool, OutOfMemory>
         ensures { IfOk result (λ goes. went goes (walk_seen self.new) ≡ spec.with_slot at.now (walk_seen self.old) (spec.stored_in (spec.known_of (walk_seen self.old) at.now) (spec.given_of (walk_seen self.old) value.now.value) (spec.form_of value.now.ty))) }
     {
         let slot = stored_in(
@@ -148,7 +154,7 @@ impl<'a> Walk<'a> {
             self.given_of(&value.value),
             form_of(&value.ty),
         );
-        self.put(at, slot)
+        self.put(alloc, at, slot)
     }
 
     fn has_read(&self, place: u64) -> bool
@@ -160,8 +166,9 @@ impl<'a> Walk<'a> {
     /// The word at a place below the number of captures, which wasn't read before.
     fn read_word(
         &mut self,
+        alloc: Global,
         captures: u64,
-        register: &'a Option<Name>,
+        register: &Option<Name>,
         place: u64,
         form: Form,
     ) -> Result<bool, OutOfMemory>
@@ -169,7 +176,7 @@ impl<'a> Walk<'a> {
     {
         if place < captures && !self.has_read(place) {
             self.read.push(place)?;
-            self.give(register, Some(Known::Is(Given::Word(place, form))))
+            self.give(alloc, register, Some(Known::Is(Given::Word(place, form))))
         } else {
             Ok(false)
         }
@@ -177,8 +184,9 @@ impl<'a> Walk<'a> {
 
     fn load(
         &mut self,
+        alloc: Global,
         captures: u64,
-        register: &'a Option<Name>,
+        register: &Option<Name>,
         form: Option<Form>,
         at: Option<Known>,
     ) -> Result<bool, OutOfMemory>
@@ -188,10 +196,10 @@ impl<'a> Walk<'a> {
             return Ok(false);
         };
         match at {
-            Some(Known::Stack(slot)) => self.give(register, taken_from(slot, form)),
-            Some(Known::Is(Given::Area)) => self.read_word(captures, register, 0, form),
+            Some(Known::Stack(slot)) => self.give(alloc, register, taken_from(slot, form)),
+            Some(Known::Is(Given::Area)) => self.read_word(alloc, captures, register, 0, form),
             Some(Known::Is(Given::Address(place))) => {
-                self.read_word(captures, register, place, form)
+                self.read_word(alloc, captures, register, place, form)
             }
             _ => Ok(false),
         }
@@ -200,7 +208,7 @@ impl<'a> Walk<'a> {
     // ---- calls
 
     /// The captured words are asked for, once.
-    fn ask(&mut self, args: &'a [Typed]) -> Result<bool, OutOfMemory>
+    fn ask(&mut self, alloc: Global, args: &[Typed]) -> Result<bool, OutOfMemory>
         ensures { IfOk result (λ goes. went goes (walk_seen self.new) ≡ spec.asks (walk_seen self.old) args.now) }
     {
         match args {
@@ -210,7 +218,7 @@ impl<'a> Walk<'a> {
                 }
                 let slot = area_in(self.known_of(&at.value));
                 self.asked = true;
-                self.put(&at.value, slot)
+                self.put(alloc, &at.value, slot)
             }
             _ => Ok(false),
         }
@@ -269,12 +277,12 @@ impl<'a> Walk<'a> {
         alloc: Global,
         region: Option<&Function>,
         callee: &Value,
-        args: &'a [Typed],
+        args: &[Typed],
     ) -> Result<bool, OutOfMemory>
         ensures { IfOk result (λ goes. went goes (walk_seen self.new) ≡ spec.called (option_copied region.entry) (walk_seen self.old) callee.now args.now) }
     {
         if is_function(Rtl::GetSharedVariables.name(), callee) {
-            return self.ask(args);
+            return self.ask(alloc, args);
         }
         match region {
             None => Ok(false),
@@ -307,19 +315,19 @@ impl<'a> Walk<'a> {
         &mut self,
         alloc: Global,
         region: Option<&Function>,
-        inst: &'a Inst,
+        inst: &Inst,
     ) -> Result<bool, OutOfMemory>
         ensures { IfOk result (λ goes. went goes (walk_seen self.new) ≡ spec.step_kind (captures_of (option_copied region.entry)) (option_copied region.entry) (walk_seen self.old) inst.now.result inst.now.kind) }
     {
         let register = &inst.result;
         match &inst.kind {
-            Kind::Alloca { ty, .. } => self.give(register, new_slot(ty)),
+            Kind::Alloca { ty, .. } => self.give(alloc, register, new_slot(ty)),
             Kind::Store {
                 value,
                 at,
                 order: None,
                 ..
-            } => self.store(value, &at.value),
+            } => self.store(alloc, value, &at.value),
             Kind::Load {
                 ty,
                 at,
@@ -327,15 +335,15 @@ impl<'a> Walk<'a> {
                 ..
             } => {
                 let known = self.known_of(&at.value);
-                self.load(captures_of(region), register, form_of(ty), known)
+                self.load(alloc, captures_of(region), register, form_of(ty), known)
             }
             Kind::Gep { ty, base, path, .. } => {
                 let known = self.goes_to(ty, &base.value, path.as_slice());
-                self.give(register, known)
+                self.give(alloc, register, known)
             }
             Kind::Cast { op, from, to } => {
                 let known = converted(*op, self.given_of(&from.value), form_of(to));
-                self.give(register, known)
+                self.give(alloc, register, known)
             }
             Kind::Call { callee, args, .. } => self.call(alloc, region, callee, args.as_slice()),
             Kind::Ret { value: None } => Ok(true),
@@ -345,7 +353,7 @@ impl<'a> Walk<'a> {
 
     /// The forms in which the captured words were passed on.
     pub fn into_passed(self) -> Option<List<Form>>
-        ensures { option_map forms_seen result ≡ (walk_seen self.entry).passed }
+        ensures { option_map forms_seen result ≡ (walk_seen self).passed }
     {
         self.passed
     }
