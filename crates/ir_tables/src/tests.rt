@@ -109,15 +109,31 @@ fn module_of(alloc: Global, types: List<TypeDef>) -> Module {
     }
 }
 
+fn is_laid(alloc: Global, indexed: &Indexed, case: Case) -> Result<bool, AllocError> {
+    let (shape, size, path, offset) = case;
+    let ty = made(alloc, shape)?;
+    Ok(indexed.size_of(&ty) == size && indexed.offset_of(&ty, path) == offset)
+}
+
+fn are_laid(alloc: Global, indexed: &Indexed) -> Result<bool, AllocError> {
+    for case in CASES {
+        if !is_laid(alloc, indexed, case)? {
+            return Ok(false);
+        }
+    }
+    Ok(true)
+}
+
+fn cases_hold(alloc: Global) -> Result<bool, AllocError> {
+    match Indexed::of(alloc, module_of(alloc, some_types(alloc)?)) {
+        Ok(indexed) => are_laid(alloc, &indexed),
+        Err(_) => Ok(false),
+    }
+}
+
 #[test]
 fn sizes_and_offsets(rt: HostRuntime) -> Result<(), Fail> {
-    let alloc = rt.alloc();
-    let indexed = Indexed::of(alloc, module_of(alloc, some_types(alloc)?))?;
-    for (shape, size, path, offset) in CASES {
-        let ty = made(alloc, shape)?;
-        assert_eq!(rt; indexed.size_of(&ty), size);
-        assert_eq!(rt; indexed.offset_of(&ty, path), offset);
-    }
+    assert_eq!(rt; cases_hold(rt.alloc())?, true);
     Ok(())
 }
 
@@ -133,19 +149,34 @@ fn listed_offset(types: &[TypeDef], ty: &Ty, path: &[i64]) -> Option<i64> {
     Some(walk.offset())
 }
 
+fn is_listed(alloc: Global, types: &[TypeDef], case: Case) -> Result<bool, AllocError> {
+    let (shape, size, path, offset) = case;
+    let ty = made(alloc, shape)?;
+    Ok(listed_size(types, &ty) == Some(size) && listed_offset(types, &ty, path) == offset)
+}
+
+fn are_listed(alloc: Global, types: &[TypeDef]) -> Result<bool, AllocError> {
+    for case in CASES {
+        if !is_listed(alloc, types, case)? {
+            return Ok(false);
+        }
+    }
+    Ok(true)
+}
+
+fn has_no_size(alloc: Global, types: &[TypeDef], name: &[u8]) -> Result<bool, AllocError> {
+    let ty = named(alloc, name)?;
+    Ok(listed_size(types, &ty).is_none())
+}
+
+fn listed_cases_hold(alloc: Global) -> Result<bool, AllocError> {
+    let types = some_types(alloc)?;
+    Ok(are_listed(alloc, types.as_slice())? && has_no_size(alloc, types.as_slice(), b"twice")?)
+}
+
 #[test]
 fn sizes_and_offsets_by_the_list(rt: HostRuntime) -> Result<(), Fail> {
-    let alloc = rt.alloc();
-    let types = some_types(alloc)?;
-    for (shape, size, path, offset) in CASES {
-        let ty = made(alloc, shape)?;
-        assert_eq!(rt; listed_size(types.as_slice(), &ty), Some(size));
-        assert_eq!(rt; listed_offset(types.as_slice(), &ty, path), offset);
-    }
-    assert_eq!(rt;
-        listed_size(types.as_slice(), &named(alloc, b"twice")?),
-        None
-    );
+    assert_eq!(rt; listed_cases_hold(rt.alloc())?, true);
     Ok(())
 }
 
@@ -172,17 +203,34 @@ fn chain(alloc: Global, count: u32, down: bool) -> Result<List<TypeDef>, AllocEr
     Ok(types)
 }
 
+fn has_size(alloc: Global, indexed: &Indexed, number: u32, size: u64) -> Result<bool, AllocError> {
+    let ty = numbered(alloc, number)?;
+    Ok(indexed.size_of(&ty) == size)
+}
+
+fn has_offset(alloc: Global, indexed: &Indexed) -> Result<bool, AllocError> {
+    let ty = numbered(alloc, 60)?;
+    Ok(indexed.offset_of(&ty, &[0, 1, 1]) == Some(3 << 61))
+}
+
+fn is_chain(alloc: Global, indexed: &Indexed) -> Result<bool, AllocError> {
+    Ok(
+        has_size(alloc, indexed, 40, 8 << 40)?
+            && has_size(alloc, indexed, 19_999, u64::MAX)?
+            && has_offset(alloc, indexed)?,
+    )
+}
+
+fn chain_is_laid(alloc: Global, down: bool) -> Result<bool, AllocError> {
+    match Indexed::of(alloc, module_of(alloc, chain(alloc, 20_000, down)?)) {
+        Ok(indexed) => is_chain(alloc, &indexed),
+        Err(_) => Ok(false),
+    }
+}
+
 #[test]
 fn long_chains(rt: HostRuntime) -> Result<(), Fail> {
-    let alloc = rt.alloc();
-    for down in [false, true] {
-        let indexed = Indexed::of(alloc, module_of(alloc, chain(alloc, 20_000, down)?))?;
-        assert_eq!(rt; indexed.size_of(&numbered(alloc, 40)?), 8 << 40);
-        assert_eq!(rt; indexed.size_of(&numbered(alloc, 19_999)?), u64::MAX);
-        assert_eq!(rt;
-            indexed.offset_of(&numbered(alloc, 60)?, &[0, 1, 1]),
-            Some(3 << 61)
-        );
-    }
+    assert_eq!(rt; chain_is_laid(rt.alloc(), false)?, true);
+    assert_eq!(rt; chain_is_laid(rt.alloc(), true)?, true);
     Ok(())
 }
