@@ -1,6 +1,5 @@
 //! The walk over a wrapper's instructions.
-ghost use Rattle.std.specs.Prelude.{◌≡◌, ◌∷◌, [], option_map, IfOk, OnOk, None, ◌==◌, if◌then◌else◌};
-ghost use Rattle.std.specs.List.{list_any};
+ghost use Rattle.std.specs.Prelude.{◌≡◌, ◌∷◌, [], option_map, IfOk, OnOk, None, false, if◌then◌else◌};
 ghost use Rattle.std.specs.Option.{option_copied};
 ghost use Rattle.ir_core.specs.FirstForm.{is_function, is_ptr};
 ghost use Rattle.ir_core.specs.Wrappers.{captures_of};
@@ -11,7 +10,7 @@ use crate::slots::{
     Form, Given, Known, Slot, address_in, area_in, converted, form_at, form_of, given_known,
     is_slot_with, new_slot, number_at, stored_in, taken_from,
 };
-use indexmap::IndexMap;
+use indexmap::{IndexMap, IndexSet};
 use ir_core::{Function, Inst, Kind, List, Name, OutOfMemory, Param, Rtl, Ty, Typed, Value};
 use name_tables::is_ptr;
 use std::alloc::Global;
@@ -22,7 +21,7 @@ use std::alloc::Global;
 pub struct Walk {
     known: IndexMap<Vec<u8>, Known>,
     asked: bool,
-    read: List<u64>,
+    read: IndexSet<u64>,
     passed: Option<List<Form>>,
 }
 
@@ -39,12 +38,6 @@ pub fn is_function(name: &[u8], value: &Value) -> bool
         Value::Global(found) => found.as_slice() == name,
         _ => false,
     }
-}
-
-fn is_among(numbers: &[u64], number: u64) -> bool
-    ensures { result ≡ list_any (λ n. n == number) numbers.now }
-{
-    numbers.iter().any(|n| *n == number)
 }
 
 /// How many words a region function captures.
@@ -65,7 +58,7 @@ impl Walk {
         Walk {
             known: IndexMap::new(alloc),
             asked: false,
-            read: List::new(alloc),
+            read: IndexSet::new(alloc),
             passed: None,
         }
     }
@@ -160,7 +153,18 @@ impl Walk {
     fn has_read(&self, place: u64) -> bool
         ensures { result ≡ spec.is_among (walk_seen self.now).read place }
     {
-        is_among(self.read.as_slice(), place)
+        self.read.contains(&place)
+    }
+
+    /// A word that wasn't read before is read.
+    fn note_read(&mut self, place: u64) -> Result<(), OutOfMemory>
+        requires { spec.is_among (walk_seen self.old).read place ≡ false }
+        ensures { OnOk result (walk_seen self.new ≡ record (walk_seen self.old) { read = place ∷ (walk_seen self.old).read }) }
+    {
+        match self.read.insert(place) {
+            Ok(_) => Ok(()),
+            Err(_) => Err(OutOfMemory),
+        }
     }
 
     /// The word at a place below the number of captures, which wasn't read before.
@@ -175,7 +179,7 @@ impl Walk {
         ensures { IfOk result (λ goes. went goes (walk_seen self.new) ≡ spec.read_word captures (walk_seen self.old) register.now place (form_seen form)) }
     {
         if place < captures && !self.has_read(place) {
-            self.read.push(place)?;
+            self.note_read(place)?;
             self.give(alloc, register, Some(Known::Is(Given::Word(place, form))))
         } else {
             Ok(false)
