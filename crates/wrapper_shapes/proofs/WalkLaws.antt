@@ -1,8 +1,7 @@
 -- One more entry, one more read word, and one more instruction of a walk.
-use Rattle.std.proofs.Common.{nat_eq, Vec, Global, Bool, if◌then◌else◌, ◌≡◌, ℕ, zero, suc, ◌+◌, ◌<◌, ◌≤◌, arith, nat_lt, not, ◌&&◌, List, [], ◌∷◌, ◌++◌, length, drop, get_or, Bool, true, false, ◌||◌, ◌==◌, Option, Some, None, option_map, refl, sym, ap, ◌∙◌, if◌then◌else◌}
+use Rattle.std.proofs.Common.{nat_eq, Vec, Global, Bool, if◌then◌else◌, ◌≡◌, ℕ, zero, suc, ◌+◌, ◌<◌, ◌≤◌, arith, List, [], ◌∷◌, ◌++◌, length, drop, get_or, Bool, true, false, ◌||◌, ◌==◌, Option, Some, None, option_map, refl, sym, ap, ◌∙◌, if◌then◌else◌}
 use Rattle.std.specs.List.{list_any}
 use Rattle.std.specs.Prelude.{option_and_then}
-use Rattle.std.proofs.lemmas.Bool.{lt-ltb}
 use Rattle.std.proofs.lemmas.List.{drop_more}
 use Rattle.ir_core.specs.declared.instructions.Typed.{Typed}
 use Rattle.wrapper_shapes.specs.declared.slots.Form.{Form}
