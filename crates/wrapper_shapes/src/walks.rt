@@ -15,8 +15,8 @@ use ir_core::{Function, Inst, Kind, List, Name, OutOfMemory, Param, Rtl, Ty, Typ
 use name_tables::is_ptr;
 use std::alloc::Global;
 
-/// What the registers are, whether the captured words were asked for, which of them were read, and in which forms they were passed
-/// on.
+/// What the registers are, whether the captured words were asked for, which of them were read, and in which forms they
+/// were passed on.
 #[derive(Drop)]
 pub struct Walk {
     known: IndexMap<Vec<u8>, Known>,
@@ -31,6 +31,7 @@ fn known_in(known: &IndexMap<Vec<u8>, Known>, name: &[u8]) -> Option<Known>
     known.get(name).copied()
 }
 
+/// Whether an operand is the global or the function of a name.
 pub fn is_function(name: &[u8], value: &Value) -> bool
     ensures { result ≡ is_function name.now value.now }
 {
@@ -106,7 +107,8 @@ impl Walk {
         }
     }
 
-    /// The register that takes an instruction's result is known from here on. The walk ends where nothing is known of it.
+    /// The register that takes an instruction's result is known from here on. The walk ends where nothing is known of
+    /// it.
     fn give(
         &mut self,
         alloc: Global,
