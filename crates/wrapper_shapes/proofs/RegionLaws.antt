@@ -1,9 +1,8 @@
 -- The first defined function that is called, and whether the captured words are asked for.
-use Rattle.std.proofs.Common.{◌≡◌, ℕ, ◌+◌, ◌<◌, ◌≤◌, List, [], ◌∷◌, ◌++◌, length, drop, get_or, Bool, true, false, Option, Some, None, refl, sym, ap, ◌∙◌, Decides, ◌==◌, add-one, arith, if◌then◌else◌, cond}
+use Rattle.std.proofs.Common.{◌≡◌, ℕ, ◌+◌, ◌<◌, List, [], ◌∷◌, ◌++◌, length, drop, get_or, Bool, true, false, Option, Some, None, refl, sym, ap, ◌∙◌, Decides, ◌==◌, add-one, arith, if◌then◌else◌, cond}
 use Rattle.std.specs.List.{flat_map, find}
 use Rattle.std.specs.Str.{bytes_eq}
-use Rattle.std.proofs.lemmas.Grind.{flat_map-append}
-use Rattle.std.proofs.lemmas.List.{drop_more, drop_all}
+use Rattle.std.proofs.lemmas.List.{drop_more}
 use Rattle.std.proofs.lemmas.Bool.Decides.{nat_tests}
 use Rattle.std.proofs.lemmas.Slice.Eq.{bytes_eq-Decides}
 use Rattle.ir_core.specs.declared.instructions.Value.{Value}
@@ -56,35 +55,6 @@ with_some fs x f is some = with_any f f.blocks some ∙ sym (defined_is fs x ∙
 pub no_function : (fs : List Function) (x : Name) → find (λ g. bytes_eq g.name x) fs ≡ None → None ≡ first_of (defined fs x)
 no_function fs x is = sym (defined_is fs x ∙ ap if_defined is)
 
--- ---- the first that is called
-
-abbrev or_else : Option Function → Option Function → Option Function
-or_else None b = b
-or_else (Some a) b = Some a
-
-first_append : (a b : List Function) → first_of (a ++ b) ≡ or_else (first_of a) (first_of b)
-first_append [] b = refl
-first_append (f ∷ a) b = refl
-
-module _ {A : Type 0} (as_defined : Name → List Function) (names : A → List Name) (xs : List A) (n : ℕ) (d : A) (low : n < length xs) where
-  abbrev first_here : List A → Option Function
-  first_here ys = first_of (flat_map as_defined (flat_map names ys))
-
-  split : first_here (drop n xs) ≡ or_else (first_of (flat_map as_defined (names (get_or xs n d)))) (first_here (drop (n + 1) xs))
-  split =
-      ap first_here (drop_more xs n d low)
-      ∙ ap first_of (flat_map-append as_defined (names (get_or xs n d)) (flat_map names (drop (n + 1) xs)))
-      ∙ first_append (flat_map as_defined (names (get_or xs n d))) (flat_map as_defined (flat_map names (drop (n + 1) xs)))
-
-  pub not_here : (all : Option Function) → first_here (drop n xs) ≡ all → None ≡ first_of (flat_map as_defined (names (get_or xs n d))) → first_here (drop (n + 1) xs) ≡ all
-  not_here all so none = ap (λ o. or_else o (first_here (drop (n + 1) xs))) none ∙ sym split ∙ so
-
-  pub is_here : (all : Option Function) (f : Function) → first_here (drop n xs) ≡ all → Some f ≡ first_of (flat_map as_defined (names (get_or xs n d))) → Some f ≡ all
-  is_here all f so some = ap (λ o. or_else o (first_here (drop (n + 1) xs))) some ∙ sym split ∙ so
-
-pub nowhere : {A : Type 0} (as_defined : Name → List Function) (names : A → List Name) (xs : List A) (n : ℕ) (all : Option Function) → length xs ≤ n → first_of (flat_map as_defined (flat_map names (drop n xs))) ≡ all → None ≡ all
-nowhere as_defined names xs n all low so = sym (ap (λ ys. first_of (flat_map as_defined (flat_map names ys))) (drop_all n xs low)) ∙ so
-
 -- ---- whether a name is among those that are called
 
 among_append : (a b : List Name) (x : Name) → is_in (a ++ b) x ≡ (if is_in a x then true else is_in b x)
@@ -100,9 +70,6 @@ module _ {A : Type 0} (names : A → List Name) (xs : List A) (n : ℕ) (d : A) 
 
   pub is_among : (all : Bool) → is_in (flat_map names (drop n xs)) x ≡ all → true ≡ is_in (names (get_or xs n d)) x → true ≡ all
   is_among all so some = ap (λ (b : Bool). if b then true else is_in (flat_map names (drop (n + 1) xs)) x) some ∙ sym parted ∙ so
-
-pub among_none : {A : Type 0} (names : A → List Name) (xs : List A) (n : ℕ) (x : Name) (all : Bool) → length xs ≤ n → is_in (flat_map names (drop n xs)) x ≡ all → false ≡ all
-among_none names xs n x all low so = sym (ap (λ ys. is_in (flat_map names ys) x) (drop_all n xs low)) ∙ so
 
 turned : (x y : Name) → bytes_eq x y ≡ bytes_eq y x
 turned x y = by_case (bytes_eq x y) (bytes_eq y x) (bytes_eq-Decides x y) (bytes_eq-Decides y x)

@@ -1,14 +1,15 @@
 -- One more entry, one more read word, and one more instruction of a walk.
-use Rattle.std.proofs.Common.{Vec, Global, Bool, if◌then◌else◌, ◌≡◌, ℕ, zero, suc, ◌+◌, ◌<◌, ◌≤◌, arith, nat_lt, not, ◌&&◌, List, [], ◌∷◌, ◌++◌, length, drop, get_or, Bool, true, false, ◌||◌, ◌==◌, Option, Some, None, option_map, refl, sym, ap, ◌∙◌, if◌then◌else◌}
+use Rattle.std.proofs.Common.{nat_eq, Vec, Global, Bool, if◌then◌else◌, ◌≡◌, ℕ, zero, suc, ◌+◌, ◌<◌, ◌≤◌, arith, List, [], ◌∷◌, ◌++◌, length, drop, get_or, Bool, true, false, ◌||◌, ◌==◌, Option, Some, None, option_map, refl, sym, ap, ◌∙◌, if◌then◌else◌}
 use Rattle.std.specs.List.{list_any}
 use Rattle.std.specs.Prelude.{option_and_then}
-use Rattle.std.proofs.lemmas.Bool.{lt-ltb}
 use Rattle.std.proofs.lemmas.List.{drop_more}
 use Rattle.ir_core.specs.declared.instructions.Typed.{Typed}
 use Rattle.wrapper_shapes.specs.declared.slots.Form.{Form}
 use Rattle.std.specs.Str.{bytes_eq}
 use Rattle.std.specs.Map.{lookup}
 use Rattle.indexmap.specs.IndexMap.{insert_entry}
+use Rattle.indexmap.specs.IndexSet.{insert_key}
+use Rattle.std.proofs.lemmas.Bool.Decides.{nat_tests}
 use Rattle.ir_tables.proofs.Places.{lookup-insert, same_turned}
 use Rattle.ir_core.specs.Places.{Name}
 use Rattle.shapes.specs.Walk as walk
@@ -60,24 +61,23 @@ pub set_next : (es after : List (Vec ℕ Global × Known)) (key : Vec ℕ Global
     ◌≡◌ {A = Name → Option walk.Known} (λ y. option_map known_seen (found after y)) (λ y. if bytes_eq x y then Some (known_seen k) else option_map known_seen (found es y))
 set_next es after key k x is name = λ i y. next_at es after key k x is name y i
 
-pub read_is : (ks : List ℕ) (k : ℕ) → list_any (λ n. n == k) ks ≡ walk.is_among (read_after [] ks) k
-read_is ks k = or_none (list_any (λ n. n == k) ks) ∙ sym (among_after [] ks k)
+same_number : (k n : ℕ) → nat_eq k n ≡ (n == k)
+same_number k n = grind (arith, nat_tests)
+
+any_same : (ks : List ℕ) (k : ℕ) → list_any (nat_eq k) ks ≡ list_any (λ n. n == k) ks
+any_same [] k = refl
+any_same (n ∷ ks) k = ap (λ b. b || list_any (nat_eq k) ks) (same_number k n) ∙ ap (λ b. (n == k) || b) (any_same ks k)
+
+pub read_is : (ks : List ℕ) (k : ℕ) → list_any (nat_eq k) ks ≡ walk.is_among (read_after [] ks) k
+read_is ks k = any_same ks k ∙ or_none (list_any (λ n. n == k) ks) ∙ sym (among_after [] ks k)
   where
     or_none : (b : Bool) → b ≡ (b || false)
     or_none true = refl
     or_none false = refl
 
-by_tests : {A : Type 0} (a b : Bool) (x : A) → a ≡ true → b ≡ false → Some x ≡ (if a && not b then Some x else None)
-by_tests true false x p q = refl
-by_tests false b x p q = let f : ⊥ = cc in absurd f
-by_tests true true x p q = let f : ⊥ = cc in absurd f
-
 -- a word that wasn't read before
-pub word_next : (captures place : ℕ) (w : walk.Walk) (x : Option Name) (f : walk.Form) (old after : List ℕ) → place < captures → walk.is_among w.read place ≡ false → w.read ≡ read_after [] old → after ≡ old ++ place ∷ [] →
-    Some (walk.with_result x (walk.Is (walk.Word place f)) (record w { read = read_after [] after })) ≡ walk.read_word captures w x place f
-word_next captures place w x f old after low new is more =
-    ap (λ read. Some (walk.with_result x (walk.Is (walk.Word place f)) (record w { read = read }))) (ap (read_after []) more ∙ read_more [] old place ∙ ap (λ read. place ∷ read) (sym is))
-    ∙ by_tests (nat_lt place captures) (walk.is_among w.read place) (walk.with_result x (walk.Is (walk.Word place f)) (record w { read = place ∷ w.read })) (lt-ltb place captures low) new
+pub word_next : (ks after : List ℕ) (k : ℕ) → walk.is_among (read_after [] ks) k ≡ false → after ≡ insert_key nat_eq ks k → read_after [] after ≡ k ∷ read_after [] ks
+word_next ks after k new is = ap (read_after []) (is ∙ ap (λ (b : Bool). if b then ks else ks ++ k ∷ []) (read_is ks k ∙ new)) ∙ read_more [] ks k
 
 -- ---- forms
 

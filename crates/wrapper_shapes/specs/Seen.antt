@@ -53,7 +53,7 @@ read_after read [] = read
 read_after read (k ∷ ks) = read_after (k ∷ read) ks
 
 abbrev pub walk_seen : Walk → walk.Walk
-walk_seen w = record { known = known_in w.known; asked = w.asked; read = read_after [] w.read; passed = option_map forms_seen w.passed }
+walk_seen w = record { known = known_in w.known; asked = w.asked; read = read_after [] w.read.keys; passed = option_map forms_seen w.passed }
 
 -- a walk that goes on, or doesn't
 abbrev pub went : Bool → walk.Walk → Option walk.Walk

@@ -30,7 +30,8 @@ pub fn of_walk(
     Ok(None)
 }
 
-/// The forms in which a wrapper with these instructions passes the captured words on; none where its walk fails, or it passes none.
+/// The forms in which a wrapper with these instructions passes the captured words on; none where its walk fails, or it
+/// passes none.
 pub fn forms_passed(
     alloc: Global,
     region: Option<&Function>,

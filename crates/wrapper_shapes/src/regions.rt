@@ -12,7 +12,7 @@ use shape_facts::calls;
 use std::alloc::Global;
 
 /// The first function of a name.
-pub fn function_given<'a>(m: &'a Indexed, name: &Name) -> Option<&'a Function>
+fn function_given<'a>(m: &'a Indexed, name: &Name) -> Option<&'a Function>
     ensures { option_copied result ≡ function_given m.now name.now }
 {
     match m.function(name) {

@@ -12,8 +12,8 @@ pub enum Form {
     Pointer,
 }
 
-/// What is held: the wrapper's own zero or thread number, a number, where the captured words stand or where one of them does, and
-/// so much of a captured word.
+/// What is held: the wrapper's own zero or thread number, a number, where the captured words stand or where one of
+/// them does, and so much of a captured word.
 #[derive(Clone, Copy)]
 pub enum Given {
     Zero,
@@ -59,7 +59,7 @@ fn bits(form: Form) -> u32
     }
 }
 
-pub fn is_pointer(form: Form) -> bool
+fn is_pointer(form: Form) -> bool
     ensures { result ≡ spec.is_pointer (form_seen form) }
 {
     match form {
@@ -68,7 +68,7 @@ pub fn is_pointer(form: Form) -> bool
     }
 }
 
-pub fn same_form(a: Form, b: Form) -> bool
+fn same_form(a: Form, b: Form) -> bool
     ensures { result ≡ spec.same_form (form_seen a) (form_seen b) }
 {
     match (a, b) {
@@ -96,7 +96,7 @@ fn fits_slot(slot: Slot, form: Form) -> bool
 }
 
 /// The slot behind a store in it.
-pub fn put_given(slot: Slot, given: Given, form: Form) -> Option<Slot>
+fn put_given(slot: Slot, given: Given, form: Form) -> Option<Slot>
     ensures { option_map slot_seen result ≡ spec.put_given (slot_seen slot) (given_seen given) (form_seen form) }
 {
     if can_be_stored(given) && fits_slot(slot, form) {
@@ -133,7 +133,7 @@ pub fn taken_from(slot: Slot, form: Form) -> Option<Known>
 }
 
 /// The slot whose address is taken, if it is one of a pointer.
-pub fn pointer_slot(known: Option<Known>) -> Option<Slot>
+fn pointer_slot(known: Option<Known>) -> Option<Slot>
     ensures { option_map slot_seen result ≡ spec.pointer_slot (option_map known_seen known) }
 {
     match known {
@@ -149,7 +149,7 @@ pub fn pointer_slot(known: Option<Known>) -> Option<Slot>
 }
 
 /// A slot of a pointer to where the captured words stand.
-pub fn area_slot(slot: Slot) -> Slot
+fn area_slot(slot: Slot) -> Slot
     ensures { slot_seen result ≡ spec.area_slot (slot_seen slot) }
 {
     Slot {

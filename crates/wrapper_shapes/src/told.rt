@@ -20,8 +20,8 @@ use name_uses::Uses;
 use shape_facts::insts_of;
 use std::alloc::Global;
 
-/// What is told of a module's wrappers and forks: the first refusal of a wrapper without its form or whose walk fails, or of a fork
-/// whose wrapper isn't one of its region function. `OutOfMemory` only where no memory was left.
+/// What is told of a module's wrappers and forks: the first refusal of a wrapper without its form or whose walk fails,
+/// or of a fork whose wrapper isn't one of its region function. `OutOfMemory` only where no memory was left.
 pub fn of_wrappers(
     alloc: Global,
     m: &Indexed,
@@ -37,8 +37,8 @@ pub fn of_wrappers(
     Ok(earlier(wrappers, of_forks(m, regions.as_slice(), insts)))
 }
 
-/// The forms in which a wrapper passes its captures on, in order; none where its walk fails, or it passes none. `OutOfMemory` only
-/// where no memory was left.
+/// The forms in which a wrapper passes its captures on, in order; none where its walk fails, or it passes none.
+/// `OutOfMemory` only where no memory was left.
 pub fn capture_forms(
     alloc: Global,
     m: &Indexed,

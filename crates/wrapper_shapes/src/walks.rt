@@ -1,6 +1,5 @@
 //! The walk over a wrapper's instructions.
-ghost use Rattle.std.specs.Prelude.{◌≡◌, ◌∷◌, [], option_map, IfOk, OnOk, None, ◌==◌, if◌then◌else◌};
-ghost use Rattle.std.specs.List.{list_any};
+ghost use Rattle.std.specs.Prelude.{◌≡◌, ◌∷◌, [], option_map, IfOk, OnOk, None, false, if◌then◌else◌};
 ghost use Rattle.std.specs.Option.{option_copied};
 ghost use Rattle.ir_core.specs.FirstForm.{is_function, is_ptr};
 ghost use Rattle.ir_core.specs.Wrappers.{captures_of};
@@ -11,18 +10,18 @@ use crate::slots::{
     Form, Given, Known, Slot, address_in, area_in, converted, form_at, form_of, given_known,
     is_slot_with, new_slot, number_at, stored_in, taken_from,
 };
-use indexmap::IndexMap;
+use indexmap::{IndexMap, IndexSet};
 use ir_core::{Function, Inst, Kind, List, Name, OutOfMemory, Param, Rtl, Ty, Typed, Value};
 use name_tables::is_ptr;
 use std::alloc::Global;
 
-/// What the registers are, whether the captured words were asked for, which of them were read, and in which forms they were passed
-/// on.
+/// What the registers are, whether the captured words were asked for, which of them were read, and in which forms they
+/// were passed on.
 #[derive(Drop)]
 pub struct Walk {
     known: IndexMap<Vec<u8>, Known>,
     asked: bool,
-    read: List<u64>,
+    read: IndexSet<u64>,
     passed: Option<List<Form>>,
 }
 
@@ -32,6 +31,7 @@ fn known_in(known: &IndexMap<Vec<u8>, Known>, name: &[u8]) -> Option<Known>
     known.get(name).copied()
 }
 
+/// Whether an operand is the global or the function of a name.
 pub fn is_function(name: &[u8], value: &Value) -> bool
     ensures { result ≡ is_function name.now value.now }
 {
@@ -39,12 +39,6 @@ pub fn is_function(name: &[u8], value: &Value) -> bool
         Value::Global(found) => found.as_slice() == name,
         _ => false,
     }
-}
-
-fn is_among(numbers: &[u64], number: u64) -> bool
-    ensures { result ≡ list_any (λ n. n == number) numbers.now }
-{
-    numbers.iter().any(|n| *n == number)
 }
 
 /// How many words a region function captures.
@@ -65,7 +59,7 @@ impl Walk {
         Walk {
             known: IndexMap::new(alloc),
             asked: false,
-            read: List::new(alloc),
+            read: IndexSet::new(alloc),
             passed: None,
         }
     }
@@ -113,7 +107,8 @@ impl Walk {
         }
     }
 
-    /// The register that takes an instruction's result is known from here on. The walk ends where nothing is known of it.
+    /// The register that takes an instruction's result is known from here on. The walk ends where nothing is known of
+    /// it.
     fn give(
         &mut self,
         alloc: Global,
@@ -160,7 +155,18 @@ impl Walk {
     fn has_read(&self, place: u64) -> bool
         ensures { result ≡ spec.is_among (walk_seen self.now).read place }
     {
-        is_among(self.read.as_slice(), place)
+        self.read.contains(&place)
+    }
+
+    /// A word that wasn't read before is read.
+    fn note_read(&mut self, place: u64) -> Result<(), OutOfMemory>
+        requires { spec.is_among (walk_seen self.old).read place ≡ false }
+        ensures { OnOk result (walk_seen self.new ≡ record (walk_seen self.old) { read = place ∷ (walk_seen self.old).read }) }
+    {
+        match self.read.insert(place) {
+            Ok(_) => Ok(()),
+            Err(_) => Err(OutOfMemory),
+        }
     }
 
     /// The word at a place below the number of captures, which wasn't read before.
@@ -175,7 +181,7 @@ impl Walk {
         ensures { IfOk result (λ goes. went goes (walk_seen self.new) ≡ spec.read_word captures (walk_seen self.old) register.now place (form_seen form)) }
     {
         if place < captures && !self.has_read(place) {
-            self.read.push(place)?;
+            self.note_read(place)?;
             self.give(alloc, register, Some(Known::Is(Given::Word(place, form))))
         } else {
             Ok(false)

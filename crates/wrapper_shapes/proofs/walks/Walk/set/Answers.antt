@@ -12,7 +12,7 @@ returns c =
     elim c.match-insert.branch [
       | in-Ok b ↦
           subst (λ r. OnOk r (walk_seen (record { known = c.insert.new.self; asked = w.asked; read = w.read; passed = w.passed }) ≡ spec.with_known c.args.name.now (known_seen c.args.known) before)) (sym b.result-is)
-          (ap (λ known. record { known = known; asked = w.asked; read = read_after [] w.read; passed = option_map forms_seen w.passed })
+          (ap (λ known. record { known = known; asked = w.asked; read = read_after [] w.read.keys; passed = option_map forms_seen w.passed })
           (set_next w.known.entries c.insert.new.self.entries c.in_ok-key.key c.args.known c.args.name.now b.in-Ok.ensures.entries (c.in_ok-key.ensures.items ∙ c.as_slice.ensures)))
       | in-Err b ↦
           subst (λ r. OnOk r (walk_seen (record { known = c.insert.new.self; asked = w.asked; read = w.read; passed = w.passed }) ≡ spec.with_known c.args.name.now (known_seen c.args.known) before)) (sym b.result-is) tt
