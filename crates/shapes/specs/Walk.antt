@@ -17,7 +17,7 @@ use Rattle.ir_core.specs.declared.module.Function.{Function}
 use Rattle.ir_core.specs.declared.module.Param.{Param}
 use Rattle.ir_core.specs.declared.refusal.Construct.TheVariants.{WrapperShape}
 use Rattle.ir_core.specs.declared.refusal.Refusal.{Refusal}
-use Rattle.ir_core.specs.FirstForm.{is_ptr, is_function}
+use Rattle.ir_core.specs.FirstForm.{is_int_of, is_ptr, is_function}
 use Rattle.ir_core.specs.Places.{Name}
 use Rattle.ir_core.specs.Wrappers.{get_shared_variables, region_function, captures}
 use Rattle.shapes.specs.Facts.{rule, insts_of}
@@ -200,12 +200,13 @@ called region w callee operands = if is_function get_shared_variables callee the
 
 -- ---- addresses and conversions
 
+abbrev pub number_of : Value → Option ℕ
+number_of (IntValue n) = Some n
+number_of _ = None
+
+-- the one index of a path, a number of 64 bits
 abbrev pub number_at : List Typed → Option ℕ
-number_at (v ∷ []) = by_value v.value
-  where
-    by_value : Value → Option ℕ
-    by_value (IntValue n) = Some n
-    by_value _ = None
+number_at (v ∷ []) = if is_int_of 64 v.ty then number_of v.value else None
 number_at _ = None
 
 abbrev pub address_in : Option Given → Option ℕ → Option Known

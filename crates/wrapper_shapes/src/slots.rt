@@ -4,6 +4,7 @@ ghost use Rattle.shapes.specs.Walk as spec;
 ghost use Rattle.wrapper_shapes.specs.Seen.{form_seen, given_seen, slot_seen, known_seen};
 
 use ir_core::{CastOp, Ty, Typed, Value};
+use name_tables::is_int_of;
 
 /// How many bits of a captured word count, or that it is a pointer.
 #[derive(Clone, Copy)]
@@ -235,15 +236,27 @@ pub fn area_in(known: Option<Known>) -> Option<Slot>
     }
 }
 
-/// The one index of a path, if it is a number.
+fn number_of(value: &Value) -> Option<u64>
+    ensures { result ≡ spec.number_of value.now }
+{
+    match value {
+        Value::Int(n) => Some(*n),
+        _ => None,
+    }
+}
+
+/// The one index of a path, if it is a number of 64 bits.
 pub fn number_at(path: &[Typed]) -> Option<u64>
     ensures { result ≡ spec.number_at path.now }
 {
     match path {
-        [index] => match &index.value {
-            Value::Int(n) => Some(*n),
-            _ => None,
-        },
+        [index] => {
+            if is_int_of(64, &index.ty) {
+                number_of(&index.value)
+            } else {
+                None
+            }
+        }
         _ => None,
     }
 }
