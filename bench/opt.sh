@@ -6,30 +6,16 @@ top=$(cd "$(dirname "$0")/.." && pwd)
 program=${1:-$top/crates/ompopt/out/ompopt}
 work=$(mktemp -d)
 trap 'rm -rf "$work"' EXIT
-python3 - "$program" "$work" <<'PY'
-import os, resource, subprocess, sys, time
+PYTHONDONTWRITEBYTECODE=1 PYTHONPATH=$top/bench python3 - "$program" "$work" <<'PY'
+import sys
+from measure import kernel, least_time, write
 
 program, work = sys.argv[1:]
 LIMIT = 4_194_304
-HEAD = """define void @k(ptr %p) {
-entry:
-  %i = call i32 @__kmpc_target_init(ptr null, i8 1, i1 true)
-  %m = icmp eq i32 %i, -1
-  br i1 %m, label %user, label %exit
-user:
-"""
-TAIL = """  call void @__kmpc_target_deinit(ptr null, i8 1)
-  ret void
-exit:
-  ret void
-}
-declare i32 @__kmpc_target_init(ptr, i8, i1)
-declare void @__kmpc_target_deinit(ptr, i8)
-"""
 
 def straight_line():
     """A kernel of 199,990 instructions, near 4 MiB."""
-    lines, size, n = [], len(HEAD) + len(TAIL), 0
+    lines, size, n = [], len(kernel("ptr %p", "")), 0
     while len(lines) < 199_990:
         a = f"  %a{n} = load i32, ptr %p\n"
         b = f"  %b{n} = add i32 %a{n}, 1\n" if n % 3 else f"  store i32 {n}, ptr %p\n"
@@ -38,11 +24,11 @@ def straight_line():
         lines += [a, b]
         size += len(a) + len(b)
         n += 1
-    return HEAD + "".join(lines) + TAIL
+    return kernel("ptr %p", "".join(lines))
 
 def comments():
     """The short kernel behind 4 MiB of comments."""
-    short = HEAD + "  store i32 7, ptr %p\n" + TAIL
+    short = kernel("ptr %p", "  store i32 7, ptr %p\n")
     line = "; " + "a comment that runs to the end of its line " * 2 + "\n"
     return line * ((LIMIT - len(short)) // len(line)) + short
 
@@ -81,21 +67,7 @@ def all_forms():
     return "".join(parts)
 
 def measure(name, text, bar, want=0):
-    path = os.path.join(work, name + ".ll")
-    with open(path, "w") as f:
-        f.write(text)
-    best, peak = None, 0
-    for _ in range(5):
-        out = open(os.path.join(work, "out"), "wb")
-        notes = open(os.path.join(work, "notes"), "wb")
-        start = time.monotonic()
-        child = subprocess.Popen([program, "opt", path], stdout=out, stderr=notes)
-        _, status, usage = os.wait4(child.pid, 0)
-        took = time.monotonic() - start
-        best = took if best is None else min(best, took)
-        peak = max(peak, usage.ru_maxrss * 1024)
-        if os.waitstatus_to_exitcode(status) != want:
-            sys.exit(f"{name}: status {os.waitstatus_to_exitcode(status)}: {open(os.path.join(work, 'notes')).read()}")
+    best, peak = least_time([program, "opt", write(work, "module.ll", text)], work, want)
     print(f"{name:14} {len(text):>9} bytes  {best:6.3f} s (bar {bar} s)  peak {peak / 2**20:7.1f} MiB, {peak / len(text):5.1f} times the text (bar 60)")
 
 measure("straight line", straight_line(), 0.3)
