@@ -72,7 +72,11 @@ fn some_module(alloc: Global) -> Result<Module, AllocError> {
 
 fn finds_items(alloc: Global, indexed: &Indexed) -> Result<bool, AllocError> {
     let main = Name::from_slice(alloc, b"main")?;
-    Ok(indexed.function(&main) == Some(1) && indexed.global(&main).is_none())
+    Ok(
+        indexed.module().functions.len() == 2
+            && indexed.function(&main) == Some(1)
+            && indexed.global(&main).is_none(),
+    )
 }
 
 fn finds_first(alloc: Global, indexed: &Indexed) -> Result<bool, AllocError> {
@@ -104,9 +108,13 @@ fn finds_all(alloc: Global, indexed: &Indexed) -> Result<bool, AllocError> {
     )
 }
 
+fn is_given_back(indexed: Indexed) -> bool {
+    indexed.into_module().functions.len() == 2
+}
+
 fn places_found(alloc: Global) -> Result<bool, AllocError> {
     match Indexed::of(alloc, some_module(alloc)?) {
-        Ok(indexed) => finds_all(alloc, &indexed),
+        Ok(indexed) => Ok(finds_all(alloc, &indexed)? && is_given_back(indexed)),
         Err(_) => Ok(false),
     }
 }
