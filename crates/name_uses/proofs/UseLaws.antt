@@ -9,19 +9,9 @@ use Rattle.ir_core.specs.declared.module.Function.{Function}
 use Rattle.shapes.specs.Facts.{insts_of, insts_in}
 use Rattle.shapes.specs.Insts.{block_insts}
 use Rattle.std.specs.Str.{bytes_eq}
-use Rattle.std.proofs.lemmas.Slice.Eq.{bytes_eq-Decides}
-use Rattle.std.proofs.Common.{Decides}
 use Rattle.ir_core.specs.Places.{Name, place_from, place_in}
 use Rattle.ir_core.specs.Wrappers.{is_in}
-
-turned : (x y : Name) → bytes_eq x y ≡ bytes_eq y x
-turned x y = by_case (bytes_eq x y) (bytes_eq y x) (bytes_eq-Decides x y) (bytes_eq-Decides y x)
-  where
-    by_case : (b c : Bool) → Decides b (x ≡ y) → Decides c (y ≡ x) → b ≡ c
-    by_case true true p q = refl
-    by_case false false p q = refl
-    by_case true false p q = sym (q.1 (sym (p.0 refl)))
-    by_case false true p q = p.1 (sym (q.0 refl))
+use Rattle.ir_tables.proofs.Places.{same_turned}
 
 by_first : (x y : Name) (b c : Bool) (n : ℕ) (rest : Option ℕ) (more : Bool) → b ≡ c → is_some rest ≡ more → is_some (if b then Some n else rest) ≡ (if c then true else more)
 by_first x y true true n rest more e h = refl
@@ -31,7 +21,7 @@ by_first x y false true n rest more e h = let f : ⊥ = cc in absurd f
 
 placed_from : (n : ℕ) (names : List Name) (x : Name) → is_some (place_from n names x) ≡ is_in names x
 placed_from n [] x = refl
-placed_from n (y ∷ ys) x = by_first x y (bytes_eq y x) (bytes_eq x y) n (place_from (n + 1) ys x) (is_in ys x) (turned y x) (placed_from (n + 1) ys x)
+placed_from n (y ∷ ys) x = by_first x y (bytes_eq y x) (bytes_eq x y) n (place_from (n + 1) ys x) (is_in ys x) (same_turned y x) (placed_from (n + 1) ys x)
 
 pub placed : (names : List Name) (x : Name) → is_some (place_in names x) ≡ is_in names x
 placed names x = placed_from 0 names x
