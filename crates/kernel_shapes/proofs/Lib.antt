@@ -1,1 +1,5 @@
 pub mod EndLaws
+pub mod ExitLaws
+pub mod KernelLaws
+pub mod OpeningLaws
+pub mod OwnLaws

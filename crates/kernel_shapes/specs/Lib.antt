@@ -1,1 +1,4 @@
 pub mod Ends
+pub mod Kernels
+pub mod Own
+pub mod Seen

@@ -6,5 +6,6 @@ mod contents;
 mod insts;
 mod names;
 mod uses;
+mod wrappers;
 
-pub use uses::Uses;
+pub use uses::{Uses, has};

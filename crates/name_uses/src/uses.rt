@@ -81,7 +81,7 @@ fn wrapping(alloc: Global, insts: &[&Inst]) -> Result<NameTable, OutOfMemory>
 }
 
 /// Whether a table has a name.
-fn has(table: &NameTable, name: &Name) -> bool
+pub fn has(table: &NameTable, name: &Name) -> bool
     ensures { (names : List Name) → HasPlaces names table.now → result ≡ is_in names name.now }
 {
     place(table, name.as_slice()).is_some()

@@ -1,1 +1,2 @@
 pub mod InstLaws
+pub mod KernelLaws

@@ -1,5 +1,5 @@
 -- Call paths: which functions stand on the main side of a kernel, and which on the region side (OpenMP 5.1, "parallel construct").
-use Rattle.std.specs.Prelude.{◌≡◌, ℕ, Bool, true, false, Some, slice_get}
+use Rattle.std.specs.Prelude.{◌≡◌, ℕ, true, false, Some, slice_get}
 use Rattle.std.specs.List.{flat_map}
 use Rattle.reach.specs.Chains.{Leads}
 use Rattle.ir_core.specs.declared.instructions.Inst.{Inst}

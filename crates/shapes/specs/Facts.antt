@@ -1,9 +1,9 @@
 -- What the rules on shapes ask of an instruction.
-use Rattle.std.specs.Prelude.{ℕ, List, [], ◌∷◌, Bool, true, false, ◌==◌, ◌&&◌, Option, Some, None, slice_get, if◌then◌else◌}
+use Rattle.std.specs.Prelude.{ℕ, List, [], ◌∷◌, Bool, true, false, Option, Some, None, slice_get, if◌then◌else◌}
 use Rattle.std.specs.List.{flat_map, find}
 use Rattle.std.specs.Str.{bytes_eq}
 use Rattle.ir_core.specs.declared.instructions.Value.{Value}
-use Rattle.ir_core.specs.declared.instructions.Value.TheVariants.{Int as IntValue, Local as LocalValue}
+use Rattle.ir_core.specs.declared.instructions.Value.TheVariants.{Local as LocalValue}
 use Rattle.ir_core.specs.declared.instructions.Typed.{Typed}
 use Rattle.ir_core.specs.declared.instructions.Kind.{Kind}
 use Rattle.ir_core.specs.declared.instructions.Kind.TheVariants.{Call}

@@ -1,13 +1,11 @@
 -- The shape of a kernel in generic mode, as clang 16 writes it for the device runtime: a first block that calls __kmpc_target_init and
 -- sends the workers to the exit, and the user code, which calls __kmpc_target_deinit before each of its returns.
-use Rattle.std.specs.Prelude.{ℕ, ◌-◌, ◌^◌, List, [], ◌∷◌, ◌++◌, length, drop, codes, Bool, true, false, not, ◌==◌, ◌&&◌, Option, Some, None, option_map, if◌then◌else◌}
+use Rattle.std.specs.Prelude.{ℕ, List, [], ◌∷◌, ◌++◌, length, drop, codes, Bool, true, false, not, ◌==◌, ◌&&◌, Option, Some, None, option_map, if◌then◌else◌}
 use Rattle.std.specs.List.{flat_map, filter, find, list_any}
 use Rattle.std.specs.Str.{bytes_eq}
 use Rattle.ir_core.specs.declared.instructions.Value.{Value}
 use Rattle.ir_core.specs.declared.instructions.Value.TheVariants.{Local as LocalValue}
-use Rattle.ir_core.specs.declared.instructions.Pred.{Pred}
 use Rattle.ir_core.specs.declared.instructions.Pred.TheVariants.{Eq, Ne}
-use Rattle.ir_core.specs.declared.instructions.Typed.{Typed}
 use Rattle.ir_core.specs.declared.instructions.Kind.{Kind}
 use Rattle.ir_core.specs.declared.instructions.Kind.TheVariants.{Bin, ICmp, Cast, Select, Alloca, Load, Store, Gep, CondBr, Ret}
 use Rattle.ir_core.specs.declared.instructions.Inst.{Inst}
@@ -20,11 +18,10 @@ use Rattle.ir_core.specs.declared.module.Block.{Block}
 use Rattle.ir_core.specs.declared.refusal.Construct.TheVariants.{KernelShape, SpmdInput}
 use Rattle.ir_core.specs.declared.refusal.Refusal.{Refusal}
 use Rattle.ir_core.specs.declared.rtl.Rtl.TheVariants.{TargetInit, TargetDeinit}
-use Rattle.ir_core.specs.EntryPoints.{target_init}
 use Rattle.ir_core.specs.FirstForm.{is_int_of, is_void, is_register, are_compared, is_exit}
 use Rattle.ir_core.specs.Places.{Name}
 use Rattle.ir_core.specs.Typing.{targets_of}
-use Rattle.ir_core.specs.Wrappers.{callees, is_in}
+use Rattle.ir_core.specs.Wrappers.{is_in}
 use Rattle.shapes.specs.Facts.{rule, insts_of, first_insts, is_call_of, operand_of, is_constant, gives}
 use Rattle.shapes.specs.Uses.{names_used, names_called, names_forked}
 
@@ -33,7 +30,7 @@ shaped = rule KernelShape
 
 -- a function that calls __kmpc_target_init
 abbrev pub is_kernel : Function → Bool
-is_kernel f = is_in (callees f) target_init
+is_kernel f = list_any (is_call_of TargetInit) (insts_of f)
 
 -- ---- kernels that are in SPMD mode already
 
@@ -98,9 +95,13 @@ abbrev pub goes_into_alloca : List Inst → Kind → Bool
 goes_into_alloca insts (Gep inbounds ty base path) = is_alloca_in insts base.value
 goes_into_alloca insts _ = false
 
--- the register of an alloca among these, or of a getelementptr of one
+-- an alloca, or a getelementptr of one among these
+abbrev pub makes_own : List Inst → Kind → Bool
+makes_own insts kind = if makes_block kind then true else goes_into_alloca insts kind
+
+-- the register of such an instruction among these
 abbrev pub is_own_pointer : List Inst → Value → Bool
-is_own_pointer insts (LocalValue x) = list_any (λ i. gives x i && (if makes_block i.kind then true else goes_into_alloca insts i.kind)) insts
+is_own_pointer insts (LocalValue x) = list_any (λ i. gives x i && makes_own insts i.kind) insts
 is_own_pointer insts _ = false
 
 -- what may stand before the init call in a block with these instructions
@@ -114,6 +115,9 @@ may_open insts (Gep inbounds ty base path) = true
 may_open insts (Load ty at order align) = is_own_pointer insts at.value
 may_open insts (Store value at order align) = is_own_pointer insts at.value
 may_open insts _ = false
+
+abbrev pub of_opener : List Inst → Inst → List Refusal
+of_opener insts i = shaped (may_open insts i.kind) i.line
 
 -- the mode is generic, and the runtime's own state machine is asked for
 abbrev pub is_generic_init : Inst → Bool
@@ -164,7 +168,7 @@ of_behind line x (test ∷ more) = if is_test x test then of_branch line test mo
 abbrev pub of_opening : ℕ → List Inst → Option Opening → List Refusal
 of_opening line insts None = shaped false line
 of_opening line insts (Some o) =
-    flat_map (λ i. shaped (may_open insts i.kind) i.line) o.before ++ shaped (is_generic_init o.init) o.init.line ++ of_behind line o.init.result o.behind
+    flat_map (of_opener insts) o.before ++ shaped (is_generic_init o.init) o.init.line ++ of_behind line o.init.result o.behind
 
 abbrev pub ways_behind : List Inst → Option Ways
 ways_behind (test ∷ branch ∷ more) = ways test branch
@@ -222,11 +226,14 @@ of_block w b = of_ends (is_exit_name w b.name) None b.insts
 
 -- ---- the whole
 
-abbrev pub of_generic : Module → Function → List Refusal
-of_generic m f =
-    shaped (has_heading m f) f.line ++ of_exec_mode m (exec_mode m f)
-    ++ of_opening f.line (first_insts f.blocks) (opening (first_insts f.blocks))
+-- the rules on its heading and its code
+abbrev pub of_code : Module → Function → List Refusal
+of_code m f =
+    shaped (has_heading m f) f.line ++ of_opening f.line (first_insts f.blocks) (opening (first_insts f.blocks))
     ++ of_exit f (kernel_ways f) ++ flat_map (of_block (kernel_ways f)) f.blocks
+
+abbrev pub of_generic : Module → Function → List Refusal
+of_generic m f = of_exec_mode m (exec_mode m f) ++ of_code m f
 
 -- of a kernel in SPMD mode no other rule is asked
 abbrev pub of_modes : List Refusal → List Refusal → List Refusal

@@ -1,11 +1,11 @@
 -- The walk over a wrapper: what each of its instructions gives, from which it is seen that the region function gets the thread's
 -- number, a zero and the captured words, each once and in its place.
-use Rattle.std.specs.Prelude.{ℕ, ◌+◌, min, List, [], ◌∷◌, ◌++◌, map, Bool, true, false, not, nat_lt, nat_le, ◌==◌, ◌&&◌, Option, Some, None, option_map, option_and_then, if◌then◌else◌}
+use Rattle.std.specs.Prelude.{ℕ, ◌+◌, min, List, [], ◌∷◌, Bool, true, false, not, nat_lt, nat_le, ◌==◌, ◌&&◌, Option, Some, None, option_map, option_and_then, if◌then◌else◌}
 use Rattle.std.specs.Str.{bytes_eq}
 use Rattle.ir_core.specs.declared.types.Ty.{Ty}
 use Rattle.ir_core.specs.declared.types.Ty.TheVariants.{Int as IntTy, Ptr as PtrTy}
 use Rattle.ir_core.specs.declared.instructions.Value.{Value}
-use Rattle.ir_core.specs.declared.instructions.Value.TheVariants.{Int as IntValue, Local as LocalValue, Global as GlobalValue}
+use Rattle.ir_core.specs.declared.instructions.Value.TheVariants.{Int as IntValue, Local as LocalValue}
 use Rattle.ir_core.specs.declared.instructions.Typed.{Typed}
 use Rattle.ir_core.specs.declared.instructions.CastOp.{CastOp}
 use Rattle.ir_core.specs.declared.instructions.CastOp.TheVariants.{ZExt, Trunc}

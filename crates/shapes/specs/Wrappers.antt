@@ -8,14 +8,12 @@ use Rattle.ir_core.specs.declared.instructions.Inst.{Inst}
 use Rattle.ir_core.specs.declared.module.Module.{Module}
 use Rattle.ir_core.specs.declared.module.Function.{Function}
 use Rattle.ir_core.specs.declared.module.Param.{Param}
-use Rattle.ir_core.specs.declared.module.Block.{Block}
 use Rattle.ir_core.specs.declared.refusal.Construct.TheVariants.{WrapperShape}
 use Rattle.ir_core.specs.declared.refusal.Refusal.{Refusal}
 use Rattle.ir_core.specs.declared.rtl.Rtl.TheVariants.{Parallel}
 use Rattle.ir_core.specs.FirstForm.{is_int_of, is_ptr, is_void, is_function, empty}
-use Rattle.ir_core.specs.Places.{Name}
 use Rattle.ir_core.specs.Wrappers.{is_in, is_wrapper, region_function, captures}
-use Rattle.shapes.specs.Facts.{rule, insts_of, insts_in, first_insts, function_given, is_call_of, operand_of, is_constant}
+use Rattle.shapes.specs.Facts.{rule, insts_of, insts_in, function_given, is_call_of, operand_of, is_constant}
 use Rattle.shapes.specs.Uses.{names_elsewhere}
 use Rattle.shapes.specs.Walk.{of_walk}
 

@@ -1,4 +1,4 @@
--- The first defined function that is called, and whether the captured words are asked for.
+-- The first defined function that is called.
 use Rattle.std.proofs.Common.{◌≡◌, ℕ, ◌+◌, ◌<◌, List, [], ◌∷◌, ◌++◌, length, drop, get_or, Bool, true, false, Option, Some, None, refl, sym, ap, ◌∙◌, Decides, ◌==◌, add-one, arith, if◌then◌else◌, cond}
 use Rattle.std.specs.List.{flat_map, find}
 use Rattle.std.specs.Str.{bytes_eq}
@@ -54,41 +54,3 @@ with_some fs x f is some = with_any f f.blocks some ∙ sym (defined_is fs x ∙
 
 pub no_function : (fs : List Function) (x : Name) → find (λ g. bytes_eq g.name x) fs ≡ None → None ≡ first_of (defined fs x)
 no_function fs x is = sym (defined_is fs x ∙ ap if_defined is)
-
--- ---- whether a name is among those that are called
-
-among_append : (a b : List Name) (x : Name) → is_in (a ++ b) x ≡ (if is_in a x then true else is_in b x)
-among_append [] b x = refl
-among_append (y ∷ a) b x = elim (bytes_eq x y) as (λ c. (if c then true else is_in (a ++ b) x) ≡ (if (if c then true else is_in a x) then true else is_in b x)) [ true ↦ refl | false ↦ among_append a b x ]
-
-module _ {A : Type 0} (names : A → List Name) (xs : List A) (n : ℕ) (d : A) (x : Name) (low : n < length xs) where
-  parted : is_in (flat_map names (drop n xs)) x ≡ (if is_in (names (get_or xs n d)) x then true else is_in (flat_map names (drop (n + 1) xs)) x)
-  parted = ap (λ ys. is_in (flat_map names ys) x) (drop_more xs n d low) ∙ among_append (names (get_or xs n d)) (flat_map names (drop (n + 1) xs)) x
-
-  pub not_among : (all : Bool) → is_in (flat_map names (drop n xs)) x ≡ all → false ≡ is_in (names (get_or xs n d)) x → is_in (flat_map names (drop (n + 1) xs)) x ≡ all
-  not_among all so none = ap (λ (b : Bool). if b then true else is_in (flat_map names (drop (n + 1) xs)) x) none ∙ sym parted ∙ so
-
-  pub is_among : (all : Bool) → is_in (flat_map names (drop n xs)) x ≡ all → true ≡ is_in (names (get_or xs n d)) x → true ≡ all
-  is_among all so some = ap (λ (b : Bool). if b then true else is_in (flat_map names (drop (n + 1) xs)) x) some ∙ sym parted ∙ so
-
-turned : (x y : Name) → bytes_eq x y ≡ bytes_eq y x
-turned x y = by_case (bytes_eq x y) (bytes_eq y x) (bytes_eq-Decides x y) (bytes_eq-Decides y x)
-  where
-    by_case : (b c : Bool) → Decides b (x ≡ y) → Decides c (y ≡ x) → b ≡ c
-    by_case true true p q = refl
-    by_case false false p q = refl
-    by_case true false p q = sym (q.1 (sym (p.0 refl)))
-    by_case false true p q = p.1 (sym (q.0 refl))
-
-or_none : (b : Bool) → b ≡ (if b then true else false)
-or_none true = refl
-or_none false = refl
-
-by_callee : (x : Name) (callee : Value) → is_function x callee ≡ is_in (value_names callee) x
-by_callee x (GlobalValue y) = turned y x ∙ or_none (bytes_eq x y)
-by_callee x _ = refl
-
--- a call of an entry point is one whose callee has its name
-pub calls_is : (r : Rtl) (kind : Kind) → calls r kind ≡ is_in (kind_callees kind) (entry_name r)
-calls_is r (Call tail_word ret callee operands) = by_callee (entry_name r) callee
-calls_is r _ = refl

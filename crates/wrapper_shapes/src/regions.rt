@@ -2,13 +2,12 @@
 ghost use Rattle.std.specs.Prelude.{◌≡◌, map, IfOk};
 ghost use Rattle.std.specs.List.{flat_map};
 ghost use Rattle.std.specs.Option.{option_copied};
-ghost use Rattle.ir_core.specs.Wrappers.{is_in, callees, inst_callees, get_shared_variables, defined, first_of, region_function};
+ghost use Rattle.ir_core.specs.Wrappers.{callees, inst_callees, defined, first_of, region_function};
 ghost use Rattle.shapes.specs.Facts.{function_given};
 ghost use Rattle.wrapper_shapes.specs.Seen.{regions_seen};
 
-use ir_core::{Function, Inst, Kind, List, Name, OutOfMemory, Rtl, Value};
+use ir_core::{Function, Inst, Kind, List, Name, OutOfMemory, Value};
 use ir_tables::Indexed;
-use shape_facts::calls;
 use std::alloc::Global;
 
 /// The first function of a name.
@@ -88,33 +87,4 @@ pub fn region_functions<'a>(
         regions.push(region_function(m, f))?;
     }
     Ok(regions)
-}
-
-fn asks(inst: &Inst) -> bool
-    ensures { result ≡ is_in (inst_callees inst.now) get_shared_variables }
-{
-    calls(Rtl::GetSharedVariables, &inst.kind)
-}
-
-fn any_asks(insts: &[Inst]) -> bool
-    ensures { result ≡ is_in (flat_map inst_callees insts.now) get_shared_variables }
-{
-    for inst in insts {
-        if asks(inst) {
-            return true;
-        }
-    }
-    false
-}
-
-/// Whether a function asks for the captured words.
-pub fn asks_for_words(f: &Function) -> bool
-    ensures { result ≡ is_in (callees f.now) get_shared_variables }
-{
-    for block in f.blocks.as_slice() {
-        if any_asks(block.insts.as_slice()) {
-            return true;
-        }
-    }
-    false
 }

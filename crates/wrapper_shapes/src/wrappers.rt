@@ -8,7 +8,7 @@ ghost use Rattle.shapes.specs.Wrappers as spec;
 ghost use Rattle.wrapper_shapes.specs.Forms.{has_form};
 
 use crate::paths::of_walk;
-use crate::regions::{asks_for_words, region_function};
+use crate::regions::region_function;
 use crate::walks::captures_of;
 use ir_core::{Construct, Function, OutOfMemory, Param, Refusal};
 use ir_tables::Indexed;
@@ -111,7 +111,7 @@ fn of_function(
     requires { AreUses m.now uses.now }
     ensures { IfOk result (λ r. r ≡ least (spec.of_function m.now f.now)) }
 {
-    if uses.is_wrapping(&f.name) || asks_for_words(f) {
+    if uses.is_wrapper(f) {
         of_wrapper(alloc, m, uses, f)
     } else {
         Ok(None)

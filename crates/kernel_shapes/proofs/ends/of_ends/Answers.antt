@@ -1,9 +1,9 @@
-use Rattle.std.proofs.Common.{◌-◌, ◌+◌, suc, ◌≡◌, ◌≤◌, ◌<◌, length, take, drop, length-drop, ap, sym, ◌∙◌, arith}
+use Rattle.std.proofs.Common.{◌-◌, ◌+◌, ◌≡◌, length, take, drop, length-drop, ap, ◌∙◌, arith}
 use Rattle.std.proofs.lemmas.List.{take_all}
 use Rattle.std.specs.Option.{option_copied}
 use Rattle.ir_core.specs.NameRefusals.{least}
 use Rattle.name_tables.specs.Least.{or_first}
-use Rattle.kernel_shapes.specs.Ends.{before_place, of_end}
+use Rattle.kernel_shapes.specs.Ends.{of_end}
 use Rattle.kernel_shapes.proofs.EndLaws.{ends_back}
 use Rattle.kernel_shapes.proofs.ends.of_ends.Goals as goal
 

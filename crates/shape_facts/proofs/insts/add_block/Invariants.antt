@@ -1,6 +1,5 @@
 use Rattle.std.proofs.Common.{◌≡◌, ◌++◌, take}
-use Rattle.shapes.specs.Facts.{insts_of}
-use Rattle.shapes.specs.Insts.{insts_seen, block_insts}
+use Rattle.shapes.specs.Insts.{insts_seen}
 use Rattle.shape_facts.proofs.insts.add_block.Given as goal
 
 abbrev pub invariant-loop-inst : goal.invariant-loop-inst

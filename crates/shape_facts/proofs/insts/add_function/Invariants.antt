@@ -1,6 +1,5 @@
 use Rattle.std.proofs.Common.{◌≡◌, ◌++◌, take}
 use Rattle.std.specs.List.{flat_map}
-use Rattle.shapes.specs.Facts.{insts_of}
 use Rattle.shapes.specs.Insts.{insts_seen, block_insts}
 use Rattle.shape_facts.proofs.insts.add_function.Given as goal
 

@@ -1,0 +1,8 @@
+use Rattle.std.proofs.Common.{◌≡◌, ◌++◌, take}
+use Rattle.std.specs.List.{flat_map}
+use Rattle.shapes.specs.Insts.{insts_seen}
+use Rattle.call_graph.specs.Targets.{forked}
+use Rattle.call_graph.proofs.sides.add_forked.Given as goal
+
+abbrev pub invariant-loop-inst : goal.invariant-loop-inst
+invariant-loop-inst l = l.places ≡ l.initial.places ++ flat_map (forked l.m) (insts_seen (take l.inst-index l.insts))

@@ -1,0 +1,10 @@
+//! Call paths: which functions stand on the main side of a kernel, and which on the region side (OpenMP 5.1, "parallel construct");
+//! and what is refused of forks on the region side.
+#![tactic(auto)]
+
+mod calls;
+mod nested;
+mod paths;
+mod sides;
+
+pub use nested::of_nested;

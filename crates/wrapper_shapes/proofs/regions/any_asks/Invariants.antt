@@ -1,7 +1,0 @@
-use Rattle.std.proofs.Common.{◌≡◌, drop}
-use Rattle.std.specs.List.{flat_map}
-use Rattle.ir_core.specs.Wrappers.{is_in, get_shared_variables, inst_callees}
-use Rattle.wrapper_shapes.proofs.regions.any_asks.Given as goal
-
-abbrev pub invariant-loop-inst : goal.invariant-loop-inst
-invariant-loop-inst l = is_in (flat_map inst_callees (drop l.inst-index l.insts)) get_shared_variables ≡ is_in (flat_map inst_callees l.insts) get_shared_variables
