@@ -1,0 +1,12 @@
+pub mod Nothing
+pub mod Clean
+pub mod Names
+pub mod Few
+pub mod Distinct
+pub mod Laid
+pub mod Once
+pub mod Chains
+pub mod SizedTypes
+pub mod SizedInsts
+pub mod SizedModules
+pub mod Sizes
