@@ -1,0 +1,4 @@
+pub mod Effects
+pub mod Plain
+pub mod Pointers
+pub mod Sides
