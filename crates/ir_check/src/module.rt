@@ -1,17 +1,17 @@
 //! The check of a whole module.
-ghost use Rattle.std.specs.Prelude.{◌≡◌, IfOk, IfErr, nat_le, true};
+ghost use Rattle.std.specs.Prelude.{◌≡◌, [], IfOk, IfErr, nat_le, true};
 ghost use Rattle.std.specs.List.{list_all};
 ghost use Rattle.ir_core.specs.FirstForm.{is_first_form, are_functions, only_functions, is_well_formed, has_good_names, instruction_count, instruction_limit, local_names};
 ghost use Rattle.ir_core.specs.NameRefusals.{name_refusals, least};
-ghost use Rattle.ir_tables.specs.Checked.{HasNoRefusal};
 ghost use Rattle.ir_core.specs.Text.{is_word};
 ghost use Rattle.ir_check.specs.Names.{entries_of, names_seen, key_of, is_typed, has_good_code, Entry};
-ghost use Rattle.ir_check.specs.Refusal.{IsCheckRefusal};
+ghost use Rattle.ir_check.specs.Refusal.{HasNoShapeRefusal, IsCheckRefusal, IsTaken};
 
 use crate::kernel::{declares_deinit, declares_init, is_kernel};
 use crate::names::{Given, given_in, table_of};
 use crate::typing::blocks_well_typed;
 use ir_core::{Block, Construct, Function, Module, Or, OutOfMemory, Refusal, is_word};
+use ir_shapes::of_shapes;
 use ir_tables::{Checked, Indexed};
 use item_names::of_module;
 use name_tables::Tables;
@@ -115,27 +115,52 @@ fn names_refused(alloc: Global, m: &Indexed) -> Result<Option<Refusal>, OutOfMem
     of_module(alloc, &tables)
 }
 
-/// The module, known to have no refusal, with tables of its names.
-///
-/// # Errors
-///
-/// The least refusal of its names and types, by line and then by number; else `not_built` at line 1 for a module that hasn't the
-/// first form, which is all that is taken by now. The module is then given up.
-pub fn check(alloc: Global, m: Module) -> Result<Checked, Or<Refusal>>
+/// The module, where it has the form that is taken by now.
+fn with_form(alloc: Global, m: Indexed) -> Result<Checked, Or<Refusal>>
+    requires names { name_refusals m ≡ [] }
+    requires shapes { HasNoShapeRefusal m }
     ensures same { IfOk result (λ c. c ≡ m) }
-    ensures passed { IfOk result (λ c. HasNoRefusal m) }
+    ensures passed { IfOk result (λ c. IsTaken m) }
     ensures refused { IfErr result (λ e. IsCheckRefusal m e) }
 {
-    let m = Indexed::of(alloc, m)?;
-    if let Some(refusal) = names_refused(alloc, &m)? {
-        return Err(Or::Refused(refusal));
-    }
-    if has_first_form(alloc, m.module())? {
+    let holds = has_first_form(alloc, m.module())?;
+    if holds {
         Ok(Checked::with_tables(m))
     } else {
         Err(Or::Refused(Refusal {
             construct: Construct::NotBuilt,
             line: 1,
         }))
+    }
+}
+
+/// The module, where nothing is refused of its shapes.
+fn with_shapes(alloc: Global, m: Indexed) -> Result<Checked, Or<Refusal>>
+    requires names { name_refusals m ≡ [] }
+    ensures same { IfOk result (λ c. c ≡ m) }
+    ensures passed { IfOk result (λ c. IsTaken m) }
+    ensures refused { IfErr result (λ e. IsCheckRefusal m e) }
+{
+    match of_shapes(alloc, &m)? {
+        Some(shape) => Err(Or::Refused(shape)),
+        None => with_form(alloc, m),
+    }
+}
+
+/// The module, known to have no refusal, with tables of its names.
+///
+/// # Errors
+///
+/// The least refusal of its names and types, by line and then by number; where there is none, the least of its shapes; else
+/// `not_built` at line 1 for a module that hasn't the first form, which is all that is taken by now. The module is then given up.
+pub fn check(alloc: Global, m: Module) -> Result<Checked, Or<Refusal>>
+    ensures same { IfOk result (λ c. c ≡ m) }
+    ensures passed { IfOk result (λ c. IsTaken m) }
+    ensures refused { IfErr result (λ e. IsCheckRefusal m e) }
+{
+    let m = Indexed::of(alloc, m)?;
+    match names_refused(alloc, &m)? {
+        Some(refusal) => Err(Or::Refused(refusal)),
+        None => with_shapes(alloc, m),
     }
 }

@@ -8,14 +8,13 @@ use Rattle.ir_core.specs.declared.answers.OutOfMemory.{OutOfMemory}
 use Rattle.ir_core.specs.declared.refusal.Refusal.{Refusal}
 use Rattle.ir_core.specs.Language.{Reads}
 use Rattle.ir_core.specs.NameRefusals.{least}
-use Rattle.ir_tables.specs.Checked.{HasNoRefusal}
 use Rattle.ir_core.specs.Text.{Text}
 use Rattle.ir_core.specs.MachineOff.{machine_off, Remarks}
 use Rattle.ir_core.specs.Notes.{refusal_text, remarks_text}
 use Rattle.refine_laws.proofs.Refining.{machine_off_refines}
 use Rattle.ir_read.specs.Refused.{IsReadRefusal}
 use Rattle.ir_read.proofs.Texts.{one_text, text_refused}
-use Rattle.ir_check.specs.Refusal.{IsRefused, IsCheckRefusal}
+use Rattle.ir_check.specs.Refusal.{IsRefused, IsCheckRefusal, IsTaken}
 use Rattle.opt_core.specs.declared.reply.Reply.{Reply}
 use Rattle.io_edge.specs.Outside.{Grows, GrowsByFront}
 use Rattle.opt_core.specs.Answer.{Accepts, IsNotAccepted, IsTextReply, IsNote, IsFailure, HasRisen, IsWritten}
@@ -25,12 +24,13 @@ not_read text (Refused r) h = (inl h, λ m accepts. text_refused text r h m acce
 not_read text Memory h = tt
 
 -- a module of which nothing is refused isn't refused
-taken : (m : Module) (r : Refusal) → IsRefused m r → HasNoRefusal m → ⊥
-taken m r (inl named) h = let none = ap least h.names in let f : ⊥ = cc in f
-taken m r (inr (none, form, same)) h = form h.form
+taken : (m : Module) (r : Refusal) → IsRefused m r → IsTaken m → ⊥
+taken m r (inl named) h = let none = ap least h.none.names in let f : ⊥ = cc in f
+taken m r (inr (inl (none, shape))) h = h.shapes r shape.0
+taken m r (inr (inr (none, shapes, form, same))) h = form h.none.form
 
 not_checked : (text : List ℕ) (m : Module) (e : Or Refusal) → Reads text m → IsCheckRefusal m e → IsNotAccepted text e
-not_checked text m (Refused r) reads h = (inr (m, reads, h), λ n accepts. taken m r h (subst HasNoRefusal (one_text text n m accepts.0 reads) accepts.1))
+not_checked text m (Refused r) reads h = (inr (m, reads, h), λ n accepts. taken m r h (subst IsTaken (one_text text n m accepts.0 reads) accepts.1))
 not_checked text m Memory reads h = tt
 
 pub check_failed : {T : Type 0} (text : List ℕ) (m : Module) (result : Result T (Or Refusal)) → Reads text m → IfErr result (λ e. IsCheckRefusal m e) → IfErr result (λ e. IsNotAccepted text e)
@@ -38,12 +38,12 @@ check_failed text m (Ok c) reads h = tt
 check_failed text m (Err e) reads h = not_checked text m e reads h
 
 -- a checked module is the one that was read
-pub is_taken : (text : List ℕ) (m : Module) (result : Result Module (Or Refusal)) → Reads text m → IfOk result (λ c. c ≡ m) → IfOk result (λ c. HasNoRefusal m) → IfOk result (λ c. Accepts text c)
+pub is_taken : (text : List ℕ) (m : Module) (result : Result Module (Or Refusal)) → Reads text m → IfOk result (λ c. c ≡ m) → IfOk result (λ c. IsTaken m) → IfOk result (λ c. Accepts text c)
 is_taken text m (Ok c) reads same form = subst (Accepts text) (sym same) (reads, form)
 is_taken text m (Err e) reads same form = tt
 
 pub is_optimised : (text : List ℕ) (m : Module) (result : Result Reply OutOfMemory) → Accepts text m → IfOk result (λ r. (r.status ≡ 0) × (r.out ≡ Text (machine_off m)) × (r.notes ≡ remarks_text (Remarks m))) → IfOk result (λ r. IsTextReply text r.status r.out r.notes)
-is_optimised text m (Ok r) accepts h = inl (m, accepts, λ l fits. machine_off_refines m l accepts.1.form fits, h.0, h.1, h.2)
+is_optimised text m (Ok r) accepts h = inl (m, accepts, λ l fits. machine_off_refines m l accepts.1.none.form fits, h.0, h.1, h.2)
 is_optimised text m (Err e) accepts h = tt
 
 pub own_status : (m : Module) (result : Result Reply OutOfMemory) → IfOk result (λ r. (r.status ≡ 0) × (r.out ≡ Text (machine_off m)) × (r.notes ≡ remarks_text (Remarks m))) → IfOk result (λ r. r.status < 5)

@@ -148,7 +148,7 @@ module _ (held : List ℕ → Option (List ℕ)) (p : Paths) (bytes : List ℕ) 
   module_file told m (Ok r) same accepts h =
       let all : told ≡ held = λ i. λ other. same other i in
       let reply = subst (λ (t : List ℕ → Option (List ℕ)). OfText (t p.launch) (λ l. IsLaunchReply m (t p.schedule) (LaunchOf m l) r.status r.out r.notes)) all h in
-      replied r (inr (m, accepts, (λ l fits. machine_off_refines m l accepts.1.form fits), reply))
+      replied r (inr (m, accepts, (λ l fits. machine_off_refines m l accepts.1.none.form fits), reply))
 
   pub module_refused : (r : Reply) → IsTextRefused bytes r.status r.out r.notes → IsFilesReply held p r.status r.out r.notes
   module_refused r refused = replied r (inl refused)

@@ -12,8 +12,7 @@ use Rattle.ir_core.specs.TextRefusals.{IsTextRefusal}
 use Rattle.ir_core.specs.MachineOff.{machine_off, Remarks}
 use Rattle.ir_core.specs.Text.{Text}
 use Rattle.ir_core.specs.Notes.{refusal_text, remarks_text}
-use Rattle.ir_tables.specs.Checked.{HasNoRefusal}
-use Rattle.ir_check.specs.Refusal.{IsRefused}
+use Rattle.ir_check.specs.Refusal.{IsRefused, IsTaken}
 use Rattle.refine_laws.specs.Refines.{RefinesSource}
 use Rattle.io_edge.specs.Outside.{Rose, Grows, GrowsByFront}
 
@@ -44,7 +43,7 @@ IsOutOfMemory = IsNote 7 (codes "ompopt: out of memory\n")
 
 -- the text spells this module, of which nothing is refused
 abbrev pub Accepts : List ℕ → Module → Type 0
-Accepts text m = Reads text m × HasNoRefusal m
+Accepts text m = Reads text m × IsTaken m
 
 -- why a text is refused: no text of the grammar begins so, or the module that it spells is refused
 abbrev pub IsRefusal : List ℕ → Refusal → Type 0

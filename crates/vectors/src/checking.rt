@@ -1,4 +1,4 @@
-//! Texts that are read, and refused for their names and types. What this phase takes is not built.
+//! Texts that are read, and refused for their names and types. What this phase takes is refused by a later one.
 use crate::refused::{is_refused_so, with_line};
 use std::alloc::{AllocError, Global};
 use std::process::Abort;
@@ -114,7 +114,7 @@ const LINES: [(&str, &[(&str, u32)]); 6] = [
 ];
 
 /// A line in place of line 7 of that kernel and an item behind the kernel, with the line that is refused.
-const LINES_AND_ITEMS: [(&str, &[(&str, &str, u32)]); 4] = [
+const LINES_AND_ITEMS: [(&str, &[(&str, &str, u32)]); 5] = [
     (
         "type_mismatch",
         &[
@@ -148,13 +148,16 @@ const LINES_AND_ITEMS: [(&str, &[(&str, &str, u32)]); 4] = [
                 "declare void @llvm.lifetime.end.p0(ptr)",
                 1,
             ),
-            // A fork may have a function's name in each of its operands.
-            (
-                "call void @__kmpc_parallel_51(ptr @k, i32 0, i32 1, i32 -1, i32 -1, ptr @k, ptr @k, ptr @k, i64 0)",
-                "declare void @__kmpc_parallel_51(ptr, i32, i32, i32, i32, ptr, ptr, ptr, i64)",
-                1,
-            ),
         ],
+    ),
+    (
+        "kernel_shape",
+        // A fork may have a function's name in each of its operands.
+        &[(
+            "call void @__kmpc_parallel_51(ptr @k, i32 0, i32 1, i32 -1, i32 -1, ptr @k, ptr @k, ptr @k, i64 0)",
+            "declare void @__kmpc_parallel_51(ptr, i32, i32, i32, i32, ptr, ptr, ptr, i64)",
+            1,
+        )],
     ),
 ];
 
@@ -255,7 +258,7 @@ const TEXTS: [(&str, &[(&str, u32)]); 7] = [
         ],
     ),
     (
-        "not_built",
+        "kernel_shape",
         &[
             ("declare void @g()", 1),
             ("declare i8 @__kmpc_parallel_level(ptr, i32)", 1),

@@ -10,4 +10,6 @@ mod reading;
 #[cfg(test)]
 mod refused;
 #[cfg(test)]
+mod shaping;
+#[cfg(test)]
 mod texts;

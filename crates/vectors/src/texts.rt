@@ -168,3 +168,41 @@ declare i32 @omp_get_thread_num()
 attributes #0 = { \"kernel\" }
 !0 = !{i32 1}
 ";
+
+/// A kernel that forks a region with one capture, which adds 1 to what it points at.
+pub(crate) const FORKED: &str = "define void @k(ptr %p) {
+entry:
+  %c = alloca [1 x ptr]
+  %i = call i32 @__kmpc_target_init(ptr null, i8 1, i1 true)
+  %m = icmp eq i32 %i, -1
+  br i1 %m, label %user, label %exit
+user:
+  store ptr %p, ptr %c
+  call void @__kmpc_parallel_51(ptr null, i32 0, i32 1, i32 -1, i32 -1, ptr @r, ptr @w, ptr %c, i64 1)
+  call void @__kmpc_target_deinit(ptr null, i8 1)
+  ret void
+exit:
+  ret void
+}
+define internal void @r(ptr %g, ptr %b, ptr %p) {
+entry:
+  %o = atomicrmw add ptr %p, i32 1 seq_cst
+  ret void
+}
+define internal void @w(i16 %z, i32 %t) {
+entry:
+  %ga = alloca i32
+  %za = alloca i32
+  %aa = alloca ptr
+  store i32 %t, ptr %ga
+  call void @__kmpc_get_shared_variables(ptr %aa)
+  %a = load ptr, ptr %aa
+  %q = load ptr, ptr %a
+  call void @r(ptr %ga, ptr %za, ptr %q)
+  ret void
+}
+declare i32 @__kmpc_target_init(ptr, i8, i1)
+declare void @__kmpc_target_deinit(ptr, i8)
+declare void @__kmpc_parallel_51(ptr, i32, i32, i32, i32, ptr, ptr, ptr, i64)
+declare void @__kmpc_get_shared_variables(ptr)
+";

@@ -5,7 +5,7 @@ use Rattle.opt_core.proofs.ReplayAnswers.{read_to, module_file, module_refused, 
 use Rattle.opt_core.proofs.replay_top.reply_to_files.Goals as goal
 
 pub reply_to_module-requires-clause-form : goal.reply_to_module-requires-clause-form
-reply_to_module-requires-clause-form g c = c.in-Ok.ensures.taken.1.form
+reply_to_module-requires-clause-form g c = c.in-Ok.ensures.taken.1.none.form
 
 pub returns-in-Ok-clause-reply : goal.returns-in-Ok-clause-reply
 returns-in-Ok-clause-reply g c =
