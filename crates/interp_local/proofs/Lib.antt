@@ -2,7 +2,6 @@ pub mod Branches
 pub mod Decides
 pub mod Elements
 pub mod Entered
-pub mod FirstForms
 pub mod Jumps
 pub mod Looks
 pub mod Moved

@@ -7,7 +7,6 @@
 mod actions;
 mod addresses;
 mod calls;
-mod first_form;
 mod operands;
 mod phis;
 mod run;
@@ -15,6 +14,5 @@ mod steps;
 
 pub use actions::{Action, Change, decide};
 pub use calls::{no_values, put_word, room_for};
-pub use first_form::first_form_is_sized;
 pub use run::{Pause, Ran, local_run, look};
 pub use steps::{Own, inst_at, next, result_place};

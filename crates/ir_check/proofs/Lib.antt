@@ -1,4 +1,1 @@
-pub mod Apart
-pub mod Tables
-pub mod Given
 pub mod Least

@@ -9,8 +9,6 @@ mod passive;
 mod place;
 mod read;
 mod scan;
-#[cfg(test)]
-mod tests;
 mod token;
 
 ghost use Rattle.std.specs.Prelude.{List as SpecList, ℕ, ◌≡◌, ◌<◌, ◌^◌, length, take, IfOk};

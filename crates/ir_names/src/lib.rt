@@ -10,8 +10,6 @@ mod instructions;
 mod operands;
 mod phis;
 mod results;
-#[cfg(test)]
-mod tests;
 
 pub use addresses::{address, shape};
 pub use blocks::{in_inst, in_kind, of_block, of_blocks, of_body};

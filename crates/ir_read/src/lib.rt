@@ -4,7 +4,5 @@
 mod fits;
 mod module;
 mod stopped;
-#[cfg(test)]
-mod tests;
 
 pub use module::{one_module, read_module};

@@ -1,9 +1,7 @@
--- Modules that keep rules may go from one thread to another, and be read by several at once.
+-- Modules with their tables may go from one thread to another, and be read by several at once.
 use denote.Param.Send.{IsSend, IsSync, sendable}
 use Rattle.std.proofs.Crossing.{crosses}
 use Rattle.ir_core.proofs.Crosses.{module_crosses}
-use Rattle.ir_tables.specs.contracts.checked.Checked as Checked
-use Rattle.ir_tables.specs.contracts.checked.OutModule as OutModule
 use Rattle.ir_tables.specs.contracts.indexed.Indexed as Indexed
 use Rattle.ir_tables.specs.contracts.names.Locals as Locals
 use Rattle.ir_tables.specs.contracts.table.Table as Table
@@ -22,14 +20,8 @@ locals_send = search (sendable, crosses) depth 40
 tables_send : IsSend (Tables.the_field).row
 tables_send = search (sendable, crosses, table_send, locals_send) depth 40
 
-indexed_send : IsSend (Indexed.the_field).row
+pub indexed_send : IsSend (Indexed.the_field).row
 indexed_send = search (sendable, crosses, module_crosses, tables_send) depth 40
-
-pub checked_send : IsSend Checked.the_row
-checked_send = search (sendable, indexed_send) depth 20
-
-pub out_module_send : IsSend OutModule.the_row
-out_module_send = search (sendable, indexed_send) depth 20
 
 places_sync : IsSync (Places.the_field).row
 places_sync = search (sendable, crosses) depth 40
@@ -43,13 +35,5 @@ locals_sync = search (sendable, crosses) depth 40
 tables_sync : IsSync (Tables.the_field).row
 tables_sync = search (sendable, crosses, table_sync, locals_sync) depth 40
 
-indexed_sync : IsSync (Indexed.the_field).row
+pub indexed_sync : IsSync (Indexed.the_field).row
 indexed_sync = search (sendable, crosses, module_crosses, tables_sync) depth 40
-
-pub checked_sync : IsSync Checked.the_row
-checked_sync = search (sendable, indexed_sync) depth 20
-
-pub out_module_sync : IsSync OutModule.the_row
-out_module_sync = search (sendable, indexed_sync) depth 20
-
-pub ruleset checked_crosses = (checked_send, checked_sync, out_module_send, out_module_sync)

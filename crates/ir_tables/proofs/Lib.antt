@@ -6,7 +6,6 @@ pub mod Places
 pub mod Naming
 pub mod Scans
 pub mod Ranks
-pub mod Counts
 pub mod Sizes
 pub mod Served
 pub mod WellFormed

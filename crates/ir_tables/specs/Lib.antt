@@ -5,4 +5,3 @@ pub mod Walk
 pub mod Laws
 pub mod Names
 pub mod Indexed
-pub mod Checked

@@ -2,16 +2,12 @@
 //!
 //! `laid` reckons with layouts, `named` gives that of a type, `table` keeps those of the named ones, and `order` says in which order they
 //! are laid out; `offsets` goes into a type. `names` makes tables of names, `tables` all of a module's, and `scan` does without them.
-//! `indexed` has a module with its tables, and `checked` the modules that keep rules.
+//! `indexed` has a module with its tables.
 #![tactic(auto)]
 
-mod checked;
-mod crossing;
 mod indexed;
 mod laid;
 mod laws;
-#[cfg(test)]
-mod name_tests;
 mod named;
 mod names;
 mod offsets;
@@ -19,11 +15,7 @@ mod order;
 mod scan;
 mod table;
 mod tables;
-#[cfg(test)]
-mod tests;
 
-pub use checked::{Changed, Checked, OutModule};
-pub use crossing::checked_cross;
 pub use indexed::Indexed;
 pub use laws::{
     array_of_structs, byte_and_word, contains_itself, field_of_third, first_item,

@@ -11,8 +11,6 @@ mod module;
 mod parts;
 mod repeated;
 mod same;
-#[cfg(test)]
-mod tests;
 mod types;
 
 pub use globals::{of_global, of_globals};

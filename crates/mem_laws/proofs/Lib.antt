@@ -1,1 +1,2 @@
+pub mod AccessTests
 pub mod StepLaws

@@ -1,7 +1,6 @@
 pub mod Runs
 pub mod Simulation
 pub mod Orders
-pub mod AccessTests
 pub mod WordLaws
 pub mod StoreLaws
 pub mod BlockLaws

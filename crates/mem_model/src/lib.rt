@@ -14,8 +14,6 @@ mod memory;
 mod order;
 mod shared;
 mod step;
-#[cfg(test)]
-mod tests;
 mod update;
 
 pub use arithmetic::{compare, eval, sign_extend, wrapped};

@@ -7,12 +7,15 @@ use Rattle.ir_core.specs.declared.module.Module.{Module}
 use Rattle.ir_core.specs.declared.answers.Or.{Or}
 use Rattle.ir_core.specs.declared.answers.Or.TheVariants.{Refused, Memory}
 use Rattle.ir_core.specs.declared.refusal.Refusal.{Refusal}
+use Rattle.ir_core.specs.FirstForm.{HasFirstForm}
 use Rattle.ir_core.specs.Language.{Reads}
 use Rattle.ir_core.specs.TextRefusals.{IsTextRefusal}
 use Rattle.ir_core.specs.MachineOff.{machine_off, Remarks}
 use Rattle.ir_core.specs.Text.{Text}
 use Rattle.ir_core.specs.Notes.{refusal_text, remarks_text}
-use Rattle.ir_check.specs.Refusal.{IsRefused, IsTaken}
+use Rattle.checked_modules.specs.Checked.{HasNoRefusal}
+use Rattle.ir_check.specs.Refusal.{IsRefused}
+use Rattle.shapes.specs.Refusals.{unbuilt}
 use Rattle.refine_laws.specs.Refines.{RefinesSource}
 use Rattle.io_edge.specs.Outside.{Rose, Grows, GrowsByFront}
 
@@ -41,22 +44,30 @@ IsInputFailed = IsNote 5 (codes "ompopt: input failed\n")
 abbrev pub IsOutOfMemory : ℕ → List ℕ → List ℕ → Type 0
 IsOutOfMemory = IsNote 7 (codes "ompopt: out of memory\n")
 
--- the text spells this module, of which nothing is refused
+-- the text spells this module, of which nothing is refused, and each entry point that it calls can be run
 abbrev pub Accepts : List ℕ → Module → Type 0
-Accepts text m = Reads text m × IsTaken m
+Accepts text m = Reads text m × HasNoRefusal m × (unbuilt m ≡ None)
 
--- why a text is refused: no text of the grammar begins so, or the module that it spells is refused
+-- why a text is refused: no text of the grammar begins so; or the module that it spells is refused; or nothing is refused of it, and it
+-- calls an entry point that can't be run yet
 abbrev pub IsRefusal : List ℕ → Refusal → Type 0
-IsRefusal text r = IsTextRefusal text r ⊎ ((m : Module) × Reads text m × IsRefused m r)
+IsRefusal text r =
+    IsTextRefusal text r
+    ⊎ ((m : Module) × Reads text m × IsRefused m r)
+    ⊎ ((m : Module) × Reads text m × HasNoRefusal m × (unbuilt m ≡ Some r))
 
 -- the text spells no module that is taken, or memory ran out
 abbrev pub IsNotAccepted : List ℕ → Or Refusal → Type 0
 IsNotAccepted text (Refused r) = IsRefusal text r × ((m : Module) → Accepts text m → ⊥)
 IsNotAccepted text Memory = Unit {0}
 
--- the module with its machine off, which refines the module as read, and the remark on it
+-- by now it is claimed of modules of the first form alone
+abbrev pub RefinesFirst : Module → Module → Type 0
+RefinesFirst m out = HasFirstForm m → RefinesSource m out
+
+-- the module with its machines off, which refines the module as read where that has the first form, and the remarks on it
 abbrev pub IsOptimised : List ℕ → ℕ → List ℕ → List ℕ → Type 0
-IsOptimised text status out notes = (m : Module) × Accepts text m × RefinesSource m (machine_off m) × (status ≡ 0) × (out ≡ Text (machine_off m)) × (notes ≡ remarks_text (Remarks m))
+IsOptimised text status out notes = (m : Module) × Accepts text m × RefinesFirst m (machine_off m) × (status ≡ 0) × (out ≡ Text (machine_off m)) × (notes ≡ remarks_text (Remarks m))
 
 abbrev pub IsTextRefused : List ℕ → ℕ → List ℕ → List ℕ → Type 0
 IsTextRefused text status out notes = (r : Refusal) × IsRefusal text r × ((m : Module) → Accepts text m → ⊥) × IsNote 3 (refusal_text r ++ codes "\n") status out notes

@@ -7,7 +7,6 @@ use Rattle.mem_model.specs.declared.launch.Launch.{Launch}
 use Rattle.mem_model.specs.Launching.{Fits}
 use Rattle.team_model.specs.declared.Pair.{Pair}
 use Rattle.team_model.specs.Team.{Team, team_start, team_end, TeamRun, Expand}
-use Rattle.refine_laws.specs.Refines.{RefinesSource}
 use Rattle.run_text.specs.declared.launch.LaunchFault.{LaunchFault}
 use Rattle.run_text.specs.declared.schedule.ScheduleFault.{ScheduleFault}
 use Rattle.run_text.specs.declared.report.RunMode.TheVariants.{Empty}
@@ -18,7 +17,7 @@ use Rattle.replay.specs.Turns.{ReplayOf}
 use Rattle.replay.specs.Reports.{report_of, end_status}
 use Rattle.replay.specs.FaultNotes.{launch_note, schedule_note}
 use Rattle.io_edge.specs.Outside.{Rose}
-use Rattle.opt_core.specs.Answer.{Accepts, IsTextRefused, OfText, IsNote, IsBadWords, IsInputFailed, IsOutOfMemory}
+use Rattle.opt_core.specs.Answer.{Accepts, RefinesFirst, IsTextRefused, OfText, IsNote, IsBadWords, IsInputFailed, IsOutOfMemory}
 
 -- ---- words
 
@@ -57,7 +56,7 @@ IsLaunchReply m schedule (Ok l) status out notes = Fits m l × OfText schedule (
 -- the module is taken, and the file of the launch is replied to
 abbrev pub IsModuleReply : Option (List ℕ) → Option (List ℕ) → List ℕ → ℕ → List ℕ → List ℕ → Type 0
 IsModuleReply launch schedule text status out notes =
-    (m : Module) × Accepts text m × RefinesSource m (machine_off m) × OfText launch (λ l. IsLaunchReply m schedule (LaunchOf m l) status out notes)
+    (m : Module) × Accepts text m × RefinesFirst m (machine_off m) × OfText launch (λ l. IsLaunchReply m schedule (LaunchOf m l) status out notes)
 
 -- the reply to the three files
 abbrev pub IsFilesReply : (List ℕ → Option (List ℕ)) → Paths → ℕ → List ℕ → List ℕ → Type 0

@@ -5,13 +5,9 @@ mod machine_off;
 mod optimiser;
 mod remarks;
 mod replay_reply;
-#[cfg(test)]
-mod replay_tests;
 mod replay_top;
 mod reply;
 mod top;
-#[cfg(test)]
-mod top_tests;
 
 pub use optimiser::{Optimised, optimise};
 pub use replay_top::replay_main;

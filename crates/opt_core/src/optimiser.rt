@@ -1,13 +1,13 @@
-//! The optimiser. By now it switches off the machine of a kernel without a region.
+//! The optimiser. By now it switches off the machines of kernels without regions.
 ghost use Rattle.std.specs.Prelude.{◌≡◌, IfOk};
-ghost use Rattle.ir_core.specs.FirstForm.{HasOutForm};
+ghost use Rattle.ir_core.specs.FirstForm.{HasFirstForm};
 ghost use Rattle.refine_laws.specs.Refines.{RefinesSource};
 ghost use Rattle.opt_core.specs.Optimised.{IsOptimisedModule};
 
 use crate::machine_off::machine_off;
 use crate::remarks::{init_lines, modes_at, remarks_at};
 use ir_core::{List, Mode, OutOfMemory, Remark};
-use ir_tables::{Checked, OutModule};
+use checked_modules::{Checked, OutModule};
 use std::alloc::Global;
 
 /// The optimised module, how each of its kernels runs in the order of the text, and the remarks in their order.
@@ -18,10 +18,11 @@ pub struct Optimised {
     pub remarks: List<Remark>,
 }
 
-/// The module, optimised: at every launch that fits, its team does nothing that the source may not do. It refuses nothing.
+/// The module, optimised: at every launch that fits, its team does nothing that the source may not do, which is claimed of modules of
+/// the first form by now. It refuses nothing.
 pub fn optimise(alloc: Global, m: &Checked) -> Result<Optimised, OutOfMemory>
     ensures module { IfOk result (λ o. IsOptimisedModule m.now o) }
-    ensures refines { IfOk result (λ o. RefinesSource m.now o.module) }
+    ensures refines { IfOk result (λ o. HasFirstForm m.now → RefinesSource m.now o.module) }
 {
     let source = m.module();
     let lines = init_lines(alloc, source)?;

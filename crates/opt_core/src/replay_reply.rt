@@ -13,9 +13,9 @@ ghost use Rattle.opt_core.specs.ReplayStages.{IsReported};
 
 use crate::optimiser::optimise;
 use crate::reply::{Reply, note_reply};
+use checked_modules::{Checked, OutModule};
 use interp::Team;
 use ir_core::{List, Module, Or, OutOfMemory};
-use ir_tables::{Checked, OutModule};
 use mem_model::Launch;
 use replay::{end_status, launch_note, replay, report_of, schedule_note};
 use run_text::{LaunchFault, RunMode, ScheduleFault, print_report, read_schedule};

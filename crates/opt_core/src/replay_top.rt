@@ -14,7 +14,7 @@ use crate::reply::{
 };
 use io_edge::{Inputs, ReadFault, Sink, read_file};
 use ir_core::Or;
-use ir_tables::Checked;
+use checked_modules::Checked;
 use mem_model::Launch;
 use run_text::read_launch;
 use std::alloc::Global;

@@ -9,12 +9,12 @@ ghost use Rattle.opt_core.specs.Answer.{Accepts, IsNotAccepted, IsTextReply, IsN
 
 use crate::optimiser::optimise;
 use crate::remarks::print_remarks;
+use checked_modules::Checked;
 use io_edge::{ReadFault, Sink, SinkFailed, write_all};
 use ir_check::check;
 use ir_core::{List, Or, OutOfMemory, Refusal};
 use ir_print::print_module;
 use ir_read::read_module;
-use ir_tables::Checked;
 use std::alloc::Global;
 
 /// A status, and what is to be written with it.
@@ -82,13 +82,34 @@ pub fn text_read_limit() -> usize
     4_194_305
 }
 
-/// The module that the text spells, checked.
+/// The module, where each entry point that it calls can be run.
+fn built(m: Checked) -> Result<Checked, Or<Refusal>>
+    ensures same { IfOk result (λ c. (c ≡ m) × (unbuilt m ≡ None)) }
+    ensures refused { IfErr result (λ e. IsUnbuilt m e) }
+{
+    match unbuilt(m.module()) {
+        Some(call) => Err(Or::Refused(call)),
+        None => Ok(m),
+    }
+}
+
+/// The module that the text spells, where nothing is refused of it.
+fn checked(alloc: Global, text: &[u8], m: Module) -> Result<Checked, Or<Refusal>>
+    requires { Reads text.now m }
+    ensures passed { IfOk result (λ c. (c ≡ m) × HasNoRefusal m) }
+    ensures refused { IfErr result (λ e. IsCheckRefusal m e) }
+{
+    are_bytes(text);
+    check(alloc, m)
+}
+
+/// The module that the text spells, where nothing is refused of it and each entry point that it calls can be run.
 pub fn read_checked(alloc: Global, text: &[u8]) -> Result<Checked, Or<Refusal>>
     ensures taken { IfOk result (λ m. Accepts text.now m) }
     ensures refused { IfErr result (λ e. IsNotAccepted text.now e) }
 {
     let m = read_module(alloc, text)?;
-    check(alloc, m)
+    built(checked(alloc, text, m)?)
 }
 
 /// The reply to the text of a module: the optimised module with the remarks on it, or the refusal.

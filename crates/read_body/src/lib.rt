@@ -7,8 +7,6 @@ mod forms;
 mod last;
 mod plain;
 mod rows;
-#[cfg(test)]
-mod tests;
 mod values;
 mod words;
 

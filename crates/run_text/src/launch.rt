@@ -12,7 +12,7 @@ use crate::arguments::{left_behind, numeral_behind, read_arg, surplus};
 use crate::kernels::kernel_named;
 use crate::lines::{behind, line_count, next_kept};
 use ir_core::{Function, List, Module, Name, Or, Param};
-use ir_tables::Checked;
+use checked_modules::Checked;
 use mem_model::{Arg, Launch};
 use std::alloc::Global;
 

@@ -11,8 +11,6 @@ mod names;
 mod report;
 mod rows;
 mod schedule;
-#[cfg(test)]
-mod tests;
 mod writer;
 
 pub use launch::{LaunchFault, LaunchFaultKind, read_launch};

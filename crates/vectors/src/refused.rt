@@ -3,7 +3,7 @@ use crate::texts::{BEFORE_SEVEN, BEHIND_SEVEN};
 use ir_check::check;
 use ir_core::{Or, Refusal};
 use ir_read::read_module;
-use ir_tables::Checked;
+use checked_modules::Checked;
 use std::alloc::{AllocError, Global};
 
 /// The kernel that stores 7, with another line in place of its line 7.
