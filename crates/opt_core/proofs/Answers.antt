@@ -14,36 +14,51 @@ use Rattle.ir_core.specs.Notes.{refusal_text, remarks_text}
 use Rattle.refine_laws.proofs.Refining.{machine_off_refines}
 use Rattle.ir_read.specs.Refused.{IsReadRefusal}
 use Rattle.ir_read.proofs.Texts.{one_text, text_refused}
-use Rattle.ir_check.specs.Refusal.{IsRefused, IsCheckRefusal, IsTaken}
+use Rattle.shapes.specs.Refusals.{unbuilt}
+use Rattle.checked_modules.specs.Checked.{HasNoRefusal}
+use Rattle.ir_check.specs.Refusal.{IsRefused, IsCheckRefusal}
 use Rattle.opt_core.specs.declared.reply.Reply.{Reply}
 use Rattle.io_edge.specs.Outside.{Grows, GrowsByFront}
-use Rattle.opt_core.specs.Answer.{Accepts, IsNotAccepted, IsTextReply, IsNote, IsFailure, HasRisen, IsWritten}
+use Rattle.opt_core.specs.Answer.{Accepts, IsUnbuilt, IsNotAccepted, IsTextReply, IsNote, IsFailure, HasRisen, IsWritten}
 
 pub not_read : (text : List ℕ) (e : Or Refusal) → IsReadRefusal text e → IsNotAccepted text e
 not_read text (Refused r) h = (inl h, λ m accepts. text_refused text r h m accepts.0)
 not_read text Memory h = tt
 
 -- a module of which nothing is refused isn't refused
-taken : (m : Module) (r : Refusal) → IsRefused m r → IsTaken m → ⊥
-taken m r (inl named) h = let none = ap least h.none.names in let f : ⊥ = cc in f
-taken m r (inr (inl (none, shape))) h = h.shapes r shape.0
-taken m r (inr (inr (none, shapes, form, same))) h = form h.none.form
+taken : (m : Module) (r : Refusal) → IsRefused m r → HasNoRefusal m → ⊥
+taken m r (inl named) h = let none = ap least h.names in let f : ⊥ = cc in f
+taken m r (inr (none, shape)) h = h.shapes r shape.0
 
 not_checked : (text : List ℕ) (m : Module) (e : Or Refusal) → Reads text m → IsCheckRefusal m e → IsNotAccepted text e
-not_checked text m (Refused r) reads h = (inr (m, reads, h), λ n accepts. taken m r h (subst IsTaken (one_text text n m accepts.0 reads) accepts.1))
+not_checked text m (Refused r) reads h = (inr (inl (m, reads, h)), λ n accepts. taken m r h (subst HasNoRefusal (one_text text n m accepts.0 reads) accepts.1))
 not_checked text m Memory reads h = tt
+
+not_built : (text : List ℕ) (m : Module) (e : Or Refusal) → Reads text m → HasNoRefusal m → IsUnbuilt m e → IsNotAccepted text e
+not_built text m (Refused r) reads h call = (inr (inr (m, reads, h, call)), λ n accepts. let same = ap unbuilt (one_text text n m accepts.0 reads) in let none = accepts.2 in let f : ⊥ = cc in f)
+not_built text m Memory reads h call = absurd call
 
 pub check_failed : {T : Type 0} (text : List ℕ) (m : Module) (result : Result T (Or Refusal)) → Reads text m → IfErr result (λ e. IsCheckRefusal m e) → IfErr result (λ e. IsNotAccepted text e)
 check_failed text m (Ok c) reads h = tt
 check_failed text m (Err e) reads h = not_checked text m e reads h
 
 -- a checked module is the one that was read
-pub is_taken : (text : List ℕ) (m : Module) (result : Result Module (Or Refusal)) → Reads text m → IfOk result (λ c. c ≡ m) → IfOk result (λ c. IsTaken m) → IfOk result (λ c. Accepts text c)
-is_taken text m (Ok c) reads same form = subst (Accepts text) (sym same) (reads, form)
-is_taken text m (Err e) reads same form = tt
+pub is_checked : (m : Module) (result : Result Module (Or Refusal)) → IfOk result (λ c. c ≡ m) → IfOk result (λ c. HasNoRefusal m) → IfOk result (λ c. (c ≡ m) × HasNoRefusal m)
+is_checked m (Ok c) same none = (same, none)
+is_checked m (Err e) same none = tt
+
+-- the module c that was checked is the module m that was read
+module _ (text : List ℕ) (m c : Module) (reads : Reads text m) (checked : (c ≡ m) × HasNoRefusal m) where
+  pub is_taken : (result : Result Module (Or Refusal)) → IfOk result (λ d. (d ≡ c) × (unbuilt c ≡ None)) → IfOk result (λ d. Accepts text d)
+  is_taken (Ok d) h = subst (Accepts text) (sym (h.0 ∙ checked.0)) (reads, checked.1, ap unbuilt (sym checked.0) ∙ h.1)
+  is_taken (Err e) h = tt
+
+  pub not_taken : (result : Result Module (Or Refusal)) → IfErr result (λ e. IsUnbuilt c e) → IfErr result (λ e. IsNotAccepted text e)
+  not_taken (Ok d) h = tt
+  not_taken (Err e) h = not_built text m e reads checked.1 (subst (λ n. IsUnbuilt n e) checked.0 h)
 
 pub is_optimised : (text : List ℕ) (m : Module) (result : Result Reply OutOfMemory) → Accepts text m → IfOk result (λ r. (r.status ≡ 0) × (r.out ≡ Text (machine_off m)) × (r.notes ≡ remarks_text (Remarks m))) → IfOk result (λ r. IsTextReply text r.status r.out r.notes)
-is_optimised text m (Ok r) accepts h = inl (m, accepts, λ l fits. machine_off_refines m l accepts.1.none.form fits, h.0, h.1, h.2)
+is_optimised text m (Ok r) accepts h = inl (m, accepts, λ form l fits. machine_off_refines m l form fits, h.0, h.1, h.2)
 is_optimised text m (Err e) accepts h = tt
 
 pub own_status : (m : Module) (result : Result Reply OutOfMemory) → IfOk result (λ r. (r.status ≡ 0) × (r.out ≡ Text (machine_off m)) × (r.notes ≡ remarks_text (Remarks m))) → IfOk result (λ r. r.status < 5)

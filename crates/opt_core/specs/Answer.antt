@@ -56,6 +56,11 @@ IsRefusal text r =
     ⊎ ((m : Module) × Reads text m × IsRefused m r)
     ⊎ ((m : Module) × Reads text m × HasNoRefusal m × (unbuilt m ≡ Some r))
 
+-- a call of an entry point that can't be run yet
+abbrev pub IsUnbuilt : Module → Or Refusal → Type 0
+IsUnbuilt m (Refused r) = unbuilt m ≡ Some r
+IsUnbuilt m Memory = ⊥
+
 -- the text spells no module that is taken, or memory ran out
 abbrev pub IsNotAccepted : List ℕ → Or Refusal → Type 0
 IsNotAccepted text (Refused r) = IsRefusal text r × ((m : Module) → Accepts text m → ⊥)

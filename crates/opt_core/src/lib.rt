@@ -1,6 +1,7 @@
 //! The optimiser's top calls.
 #![tactic(auto)]
 
+mod bytes;
 mod machine_off;
 mod optimiser;
 mod remarks;
@@ -11,4 +12,5 @@ mod top;
 
 pub use optimiser::{Optimised, optimise};
 pub use replay_top::replay_main;
+pub use reply::read_checked;
 pub use top::opt_main;

@@ -1,11 +1,11 @@
-//! Texts that are read, and refused for their names and types. What this phase takes is refused by a later one.
-use crate::refused::{is_refused_so, with_line};
+//! Texts that are read, and refused for their names and types, or taken.
+use crate::refused::{is_refused_so, refusal_of, with_line};
 use std::alloc::{AllocError, Global};
 use std::process::Abort;
 use std::test::Fail;
 
 /// Lines in place of line 7 of the kernel that stores 7, each with the line that is refused.
-const LINES: [(&str, &[(&str, u32)]); 6] = [
+const LINES: [(&str, &[(&str, u32)]); 5] = [
     (
         "duplicate_name",
         &[
@@ -101,15 +101,19 @@ const LINES: [(&str, &[(&str, u32)]); 6] = [
         ],
     ),
     ("pointer_order", &[("%x = icmp slt ptr %p, null", 7)]),
+];
+
+/// A line in place of line 7 of that kernel and an item behind the kernel, which are taken.
+const TAKEN: [(&str, &str); 6] = [
+    ("%x = icmp eq ptr %p, null", ""),
+    ("%x = phi i32 [ 1, %entry ], [ 1, %entry ]", ""),
+    ("%x = getelementptr [2 x i8], ptr %p, i32 0, i32 %i", ""),
+    // A call that is dropped, and a phi that is still the first instruction.
+    ("call void @llvm.assume(i1 %x)\n%y = phi i1 [1, %entry]", ""),
+    ("call void @g()", "define void @g() { ret void }"),
     (
-        "not_built",
-        &[
-            ("%x = icmp eq ptr %p, null", 1),
-            ("%x = phi i32 [ 1, %entry ], [ 1, %entry ]", 1),
-            ("%x = getelementptr [2 x i8], ptr %p, i32 0, i32 %i", 1),
-            // A call that is dropped, and a phi that is still the first instruction.
-            ("call void @llvm.assume(i1 %x)\n%y = phi i1 [1, %entry]", 1),
-        ],
+        "call void @llvm.lifetime.end.p0(ptr %nope)",
+        "declare void @llvm.lifetime.end.p0(ptr)",
     ),
 ];
 
@@ -142,11 +146,16 @@ const LINES_AND_ITEMS: [(&str, &[(&str, &str, u32)]); 5] = [
     (
         "not_built",
         &[
-            ("call void @g()", "define void @g() { ret void }", 1),
             (
-                "call void @llvm.lifetime.end.p0(ptr %nope)",
-                "declare void @llvm.lifetime.end.p0(ptr)",
-                1,
+                "call void @__kmpc_barrier(ptr null, i32 0)",
+                "declare void @__kmpc_barrier(ptr, i32)",
+                7,
+            ),
+            // The first of two by its place.
+            (
+                "call void @g()\ncall void @ompx_print_i64(i64 1)",
+                "define void @g() {\ncall void @ompx_print_i64(i64 2)\nret void\n}\ndeclare void @ompx_print_i64(i64)",
+                8,
             ),
         ],
     ),
@@ -272,6 +281,23 @@ const TEXTS: [(&str, &[(&str, u32)]); 7] = [
 fn is_told(alloc: Global, text: &[u8], construct: &str, line: u32) -> Result<bool, AllocError> {
     let want = format!(in alloc; "ompopt: refused: {construct} at line {line}")?;
     is_refused_so(alloc, text, want.as_str())
+}
+
+/// Whether the text is taken.
+fn is_taken(alloc: Global, text: &[u8]) -> Result<bool, AllocError> {
+    Ok(refusal_of(alloc, text)?.is_none())
+}
+
+#[test]
+fn what_is_taken(rt: HostRuntime) -> Result<(), Fail> {
+    let alloc = rt.alloc();
+    for (code, item) in TAKEN {
+        let mut text = with_line(alloc, code)?;
+        text.extend_from_slice(item.as_bytes())?;
+        let taken = is_taken(alloc, text.as_slice())?;
+        assert!(rt; taken, "{code} with {item}");
+    }
+    Ok(())
 }
 
 #[test]

@@ -1,9 +1,7 @@
 //! Why texts are refused.
 use crate::texts::{BEFORE_SEVEN, BEHIND_SEVEN};
-use ir_check::check;
 use ir_core::{Or, Refusal};
-use ir_read::read_module;
-use checked_modules::Checked;
+use opt_core::read_checked;
 use std::alloc::{AllocError, Global};
 
 /// The kernel that stores 7, with another line in place of its line 7.
@@ -14,16 +12,9 @@ pub(crate) fn with_line(alloc: Global, line: &str) -> Result<Vec<u8>, AllocError
     Ok(text)
 }
 
-fn checked(alloc: Global, text: &[u8]) -> Result<Checked, Or<Refusal>> {
-    match read_module(alloc, text) {
-        Ok(module) => check(alloc, module),
-        Err(error) => Err(error),
-    }
-}
-
 /// Why the text is refused.
 pub(crate) fn refusal_of(alloc: Global, text: &[u8]) -> Result<Option<Refusal>, AllocError> {
-    match checked(alloc, text) {
+    match read_checked(alloc, text) {
         Ok(_) => Ok(None),
         Err(Or::Refused(refusal)) => Ok(Some(refusal)),
         Err(Or::Memory) => Err(AllocError),
