@@ -37,7 +37,7 @@ use Rattle.mem_model.specs.Update.{Updated, update_number, update_at}
 use Rattle.mem_model.specs.Next.{NextStep, Local, Trapped, with_found, with_number, with_pointer, with_result, with_scalar, with_frames, code_on, goes_on, phi_word, with_phis, enters, to_block, to_label, is_case, case_for, loads, stores, updates, allocates, Callee, CallsInit, CallsDeinit, CallsFunction, CallsOther, callee_of, called, next_call, returns, next_kind, next_inst, next_frames, Next, resumed_frames}
 use Rattle.mem_model.specs.Launching.{thread_at}
 use Rattle.mem_laws.specs.StepLaws.{StandsAt, IsNot, PhisSwap, SwitchFirst, SwitchOther, CallBegins, ReturnGoesBack, CallReturns, ReturnLeaves, AllocaMakes, HasNoNewer, FirstThreadIsNew, NamesAreNew, AllocaEnds, UpdateInOne, UpdateOfConstant}
-use Rattle.mem_laws.proofs.AccessTests.{begin, in_block}
+use Rattle.mem_model.proofs.AccessTests.{begin, in_block}
 use Rattle.mem_model.proofs.StoreLaws.{access_reads}
 
 -- the next step is that of the instruction at which the thread stands

@@ -1,4 +1,4 @@
-use Rattle.mem_laws.proofs.AccessTests as laws
+use Rattle.mem_model.proofs.AccessTests as laws
 use Rattle.mem_laws.proofs.memory_laws.store_goes.Goals as goal
 
 pub returns : goal.returns
