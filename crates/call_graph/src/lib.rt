@@ -2,9 +2,11 @@
 //! and what is refused of forks on the region side.
 #![tactic(auto)]
 
-mod calls;
+mod graphs;
 mod nested;
 mod paths;
 mod sides;
 
+pub use graphs::calls;
 pub use nested::of_nested;
+pub use sides::{main_side, region_side};

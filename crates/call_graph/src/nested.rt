@@ -9,7 +9,7 @@ ghost use Rattle.shapes.specs.Refusals.{IsAnswer};
 ghost use Rattle.call_graph.specs.Graphs.{AreMarksOf};
 ghost use Rattle.call_graph.specs.Nested.{nested_fork};
 
-use crate::calls::calls;
+use crate::graphs::calls;
 use crate::sides::region_side;
 use ir_core::{Construct, Inst, OutOfMemory, Refusal, Rtl};
 use ir_tables::Indexed;

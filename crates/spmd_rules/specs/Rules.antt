@@ -11,7 +11,7 @@ use Rattle.ir_core.specs.Places.{Name, Place, inst_at}
 use Rattle.shapes.specs.CallPaths.{IsOnMainSideOf, IsOnRegionSide}
 use Rattle.value_facts.specs.Effects.{Accesses, NeedsGuard}
 use Rattle.value_facts.specs.Pointers.{register, spot, CallsFunction, MayBeStack}
-use Rattle.value_facts.specs.Sides.{ReachesRegion}
+use Rattle.call_paths.specs.Runs.{ReachesRegion}
 
 -- ---- where a rule is broken
 

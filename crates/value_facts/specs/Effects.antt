@@ -11,7 +11,7 @@ use Rattle.ir_core.specs.Places.{Place, inst_at}
 use Rattle.shapes.specs.CallPaths.{Calls, IsKernelAt, IsOnMainSide}
 use Rattle.shapes.specs.Facts.{is_call_of}
 use Rattle.value_facts.specs.Pointers.{spot, StandsIn, CallsFunction, MayBeOther}
-use Rattle.value_facts.specs.Sides.{ReachesRegion}
+use Rattle.call_paths.specs.Runs.{ReachesRegion}
 
 -- a store, or an atomic access, through a pointer
 abbrev pub Accesses : Kind → Typed → Type 0

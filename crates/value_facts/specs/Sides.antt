@@ -1,23 +1,11 @@
--- Functions that reach a region, and functions that share a side.
-use Rattle.std.specs.Prelude.{◌≡◌, ◌⊎◌, ℕ, List, true, Some, slice_get}
-use Rattle.std.specs.List.{list_any}
-use Rattle.reach.specs.Chains.{Leads}
+-- Functions that share a side, and region functions.
+use Rattle.std.specs.Prelude.{◌≡◌, ◌⊎◌, ℕ, true, Some, slice_get}
 use Rattle.ir_core.specs.declared.module.Module.{Module}
 use Rattle.ir_core.specs.declared.module.Function.{Function}
-use Rattle.ir_core.specs.declared.rtl.Rtl.TheVariants.{Parallel}
 use Rattle.ir_core.specs.Places.{Name}
-use Rattle.ir_core.specs.Wrappers.{is_in, function_wrappers, callees, is_wrapper}
-use Rattle.shapes.specs.CallPaths.{Calls, IsOnMainSideOf, IsOnRegionSide}
-use Rattle.shapes.specs.Facts.{insts_of, is_call_of}
+use Rattle.ir_core.specs.Wrappers.{is_in, callees, is_wrapper}
+use Rattle.shapes.specs.CallPaths.{IsOnMainSideOf, IsOnRegionSide}
 use Rattle.shapes.specs.Uses.{names_forked}
-
--- the function at the place has a fork
-abbrev pub HasFork : Module → ℕ → Type 0
-HasFork m at = (f : Function) × (slice_get m.functions at ≡ Some f) × (list_any (is_call_of Parallel) (insts_of f) ≡ true)
-
--- a call path from the function comes to a fork
-abbrev pub ReachesRegion : Module → ℕ → Type 0
-ReachesRegion m at = (to : ℕ) × Leads (Calls m) at to × HasFork m to
 
 -- some kernel has both on its main side, or both stand on the region side
 abbrev pub ShareSide : Module → ℕ → ℕ → Type 0

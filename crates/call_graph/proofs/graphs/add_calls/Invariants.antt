@@ -3,7 +3,7 @@ use Rattle.std.specs.List.{flat_map}
 use Rattle.shapes.specs.Insts.{insts_seen}
 use Rattle.call_graph.specs.Graphs.{Adds}
 use Rattle.call_graph.specs.Targets.{called}
-use Rattle.call_graph.proofs.calls.add_calls.Given as goal
+use Rattle.call_graph.proofs.graphs.add_calls.Given as goal
 
 abbrev pub invariant-loop-inst : goal.invariant-loop-inst
 invariant-loop-inst l = Adds l.from (flat_map (called l.m) (insts_seen (take l.inst-index l.insts))) l.initial.graph l.graph

@@ -8,8 +8,8 @@ use Rattle.call_graph.specs.Targets.{called}
 use Rattle.call_graph.proofs.GraphLaws.{CallsBelow, all_calls, calls_next, calls_passed}
 use Rattle.call_graph.proofs.ListLaws.{read_at}
 use Rattle.call_graph.proofs.NameLaws.{mark_is}
-use Rattle.call_graph.proofs.calls.marked_calls.Goals as goal
-use Rattle.call_graph.proofs.calls.marked_calls.Goals.{then-paths-from+in_ok-insts+in_ok-add_calls, else-paths-from}
+use Rattle.call_graph.proofs.graphs.marked_calls.Goals as goal
+use Rattle.call_graph.proofs.graphs.marked_calls.Goals.{then-paths-from+in_ok-insts+in_ok-add_calls, else-paths-from}
 
 pub loop-from-preserved : goal.loop-from-preserved
 loop-from-preserved c =

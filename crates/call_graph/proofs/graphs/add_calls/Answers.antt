@@ -4,8 +4,8 @@ use Rattle.shapes.specs.Insts.{insts_seen}
 use Rattle.call_graph.specs.Graphs.{Adds}
 use Rattle.call_graph.specs.Targets.{as_list, called}
 use Rattle.call_graph.proofs.GraphLaws.{given_none, given_one}
-use Rattle.call_graph.proofs.calls.add_calls.Goals as goal
-use Rattle.call_graph.proofs.calls.add_calls.Goals.{in-Some+in_ok-add, in_default}
+use Rattle.call_graph.proofs.graphs.add_calls.Goals as goal
+use Rattle.call_graph.proofs.graphs.add_calls.Goals.{in-Some+in_ok-add, in_default}
 
 pub loop-inst-preserved : goal.loop-inst-preserved
 loop-inst-preserved c =
