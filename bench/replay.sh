@@ -36,17 +36,40 @@ def each_step(name, buffers, stores):
     print(f"{name:44} {step * 1e9:8.1f} ns a step, {long:6.3f} s for {many} steps, peak {peak / 2**20:6.1f} MiB")
     return step
 
+LOOP = """  br label %head
+head:
+  %c = phi i32 [ 0, %user ], [ %d, %head ]
+  store i32 %c, ptr %p
+  %d = add i32 %c, 1
+  %t = icmp ne i32 %d, 0
+  br i1 %t, label %head, label %done
+done:
+"""
+
+def looping(behind):
+    """A kernel that stores in a loop without end, with so many instructions behind the loop."""
+    return kernel("ptr %p", LOOP + "".join(f"  store i32 {n}, ptr %p\n" for n in range(behind)))
+
+def each_loop_step(name, behind):
+    """The time for a step in a loop."""
+    module, start = looping(behind), launch(1, 1)
+    few, many = 200_000, 2_000_000
+    short, _ = timed(module, start, f"1 {few}\n", 10)
+    long, peak = timed(module, start, f"1 {many}\n", 10)
+    step = (long - short) / (many - few)
+    print(f"{name:44} {step * 1e9:8.1f} ns a step, {long - short:6.3f} s for {many - few} steps (bar 1 s for {many}), peak {peak / 2**20:6.1f} MiB")
+    return step
+
 few = each_step("stores to 10 buffers", 10, 100_000)
 many = each_step("stores to 10,000 buffers", 10_000, 100_000)
 print(f"{'ratio, 10,000 buffers to 10 (bar 2)':44} {many / few:8.2f}")
 
-short = each_step("a module of 20,000 instructions", 1, 20_000)
-long = each_step("a module of 170,000 instructions", 1, 170_000)
+short = each_loop_step("a loop in a module of 40 instructions", 28)
+long = each_loop_step("the loop in a module of 170,000 instructions", 170_000)
 print(f"{'ratio, the long module to the short (bar 1.5)':44} {long / short:8.2f}")
 
-stores = 170_000
-module, start = storing(1, stores), launch(64, 1)
-took, peak = timed(module, start, "64 1\n" * (OPENING + stores) + "".join(f"{t} 4\n" for t in range(64)), 10)
-print(f"{'pairs of one step, of a team of 65 threads':44} {took:8.3f} s for {OPENING + stores} pairs, peak {peak / 2**20:6.1f} MiB")
-print("not measured before kernels with loops are taken: a module of 40 instructions, 2,000,000 steps of one thread in one pair and of 65 threads in pairs of one step")
+module, start = looping(0), launch(64, 1)
+turns = 2_000_000 - 64 * 4
+took, peak = timed(module, start, "64 1\n" * turns + "".join(f"{t} 4\n" for t in range(64)), 10)
+print(f"{'pairs of one step, of a team of 65 threads':44} {took:8.3f} s for {turns} pairs, peak {peak / 2**20:6.1f} MiB")
 PY
