@@ -1,4 +1,4 @@
-use Rattle.formed_laws.proofs.Formed.{read_is_formed}
+use Rattle.formed_laws.proofs.Reading.{read_is_formed}
 use Rattle.opt_core.proofs.Answers.{is_checked, check_failed}
 use Rattle.opt_core.proofs.reply.checked.Goals as goal
 
