@@ -6,10 +6,10 @@ use Rattle.ir_core.specs.declared.instructions.Value.TheVariants.{Int as IntValu
 use Rattle.ir_core.specs.Tokens.{Lexeme}
 use Rattle.ir_core.specs.Spell.{one}
 use Rattle.ir_core.specs.Forms.{alignment, default_space, FlatForm, Integer, Pointer, NamedForm, flat_form, TypeForm, Flat, ArrayForm, StructForm, type_form, type_in, nesting_limit, type_, result_type, AttributeForm, PlainAttribute, AlignAttribute, SizedAttribute, attribute_form, attributes, IsValue, typed, target}
-use Rattle.formed_laws.proofs.Within.{within_then, within_done, within_word, within_natural, within_list, IsWithin, Within, of_kind, within_one, within_kind, within_any, within_either, within_laws}
+use Rattle.formed_laws.proofs.Within.{IsWithin, Within, within_done, within_one, of_kind, within_kind, within_word, within_natural, within_then, within_any, within_either, within_list, within_laws}
 
 pub within_alignment : Within alignment
-within_alignment = search within_laws depth 20
+within_alignment = search within_laws
 
 -- ---- types
 
@@ -17,9 +17,9 @@ within_space : Within default_space
 within_space = search within_laws depth 20
 
 within_flat : (form : FlatForm) → Within (flat_form form)
-within_flat Integer = search within_laws depth 20
-within_flat Pointer = search (within_laws, within_space) depth 20
-within_flat NamedForm = search within_laws depth 20
+within_flat Integer = search within_laws
+within_flat Pointer = search (within_laws, within_space)
+within_flat NamedForm = search within_laws
 
 within_type_form : (T : List Lexeme → Ty → Type 0) → Within T → (form : TypeForm) → Within (type_form T form)
 within_type_form T h Flat = within_any within_flat
@@ -39,12 +39,12 @@ within_result = within_either within_type (search within_laws)
 -- ---- attributes
 
 within_attribute : (form : AttributeForm) → Within (attribute_form form)
-within_attribute PlainAttribute = search within_laws depth 20
-within_attribute AlignAttribute = search within_laws depth 20
-within_attribute SizedAttribute = search within_laws depth 20
+within_attribute PlainAttribute = search within_laws
+within_attribute AlignAttribute = search within_laws
+within_attribute SizedAttribute = search within_laws
 
 pub within_attributes : Within attributes
-within_attributes = search (within_laws, within_attribute) depth 20
+within_attributes = search (within_laws, within_attribute)
 
 -- ---- operands
 
@@ -59,9 +59,9 @@ pub within_value : (ty : Ty) → Within (one (IsValue ty))
 within_value ty = within_one (value_kind ty)
 
 pub within_typed : Within typed
-within_typed = search (within_laws, within_type, within_value) depth 20
+within_typed = search (within_laws, within_type, within_value)
 
 pub within_target : Within target
-within_target = search within_laws depth 20
+within_target = search within_laws
 
 pub ruleset within_forms = (within_alignment, within_type, within_result, within_attributes, within_value, within_typed, within_target)

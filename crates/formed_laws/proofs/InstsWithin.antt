@@ -11,23 +11,23 @@ within_assigned : Within assigned
 within_assigned = within_either within_valued within_call
 
 within_plain_form : (form : PlainForm) → Within (plain_form form)
-within_plain_form Assigns = search (within_laws, within_assigned) depth 20
-within_plain_form Stores = search (within_laws, within_stored) depth 20
-within_plain_form Fences = search (within_laws, within_fenced) depth 20
-within_plain_form Calls = search (within_laws, within_called) depth 20
-within_plain_form TailCalls = search (within_laws, within_called) depth 20
+within_plain_form Assigns = search (within_laws, within_assigned)
+within_plain_form Stores = search (within_laws, within_stored)
+within_plain_form Fences = search (within_laws, within_fenced)
+within_plain_form Calls = search (within_laws, within_called)
+within_plain_form TailCalls = search (within_laws, within_called)
 
 within_plain : Within plain
-within_plain = search (within_laws, within_plain_form, within_attachments) depth 20
+within_plain = search (within_laws, within_plain_form, within_attachments)
 
 -- ---- instructions that end a block
 
 within_case : Within case
-within_case = search (within_laws, within_forms) depth 20
+within_case = search (within_laws, within_forms)
 
 within_branch_form : (form : BranchForm) → Within (branch_form form)
-within_branch_form Straight = search (within_laws, within_forms) depth 20
-within_branch_form Tested = search (within_laws, within_forms) depth 20
+within_branch_form Straight = search (within_laws, within_forms)
+within_branch_form Tested = search (within_laws, within_forms)
 
 within_switched : Within switched
 within_switched = search (within_laws, within_forms, within_case) depth 20
@@ -39,15 +39,15 @@ within_last_form : (form : LastForm) → Within (last_form form)
 within_last_form Branches = within_any within_branch_form
 within_last_form Switches = within_switched
 within_last_form Returns = within_returned
-within_last_form Stops = search within_laws depth 20
+within_last_form Stops = search within_laws
 
 within_last : Within last
-within_last = search (within_laws, within_last_form, within_attachments) depth 20
+within_last = search (within_laws, within_last_form, within_attachments)
 
 -- ---- blocks
 
 pub within_body : (label : List ℕ × ℕ) → Within (body_of label)
-within_body label = search (within_laws, within_plain, within_last) depth 20
+within_body label = search (within_laws, within_plain, within_last)
 
 pub within_block : Within block
-within_block = search (within_laws, within_body) depth 20
+within_block = search (within_laws, within_body)

@@ -8,7 +8,7 @@ use Rattle.ir_core.specs.Tokens.{Lexeme}
 use Rattle.ir_core.specs.Spell.{one, with_line}
 use Rattle.ir_core.specs.Language.{IsItemWord, kept_words, comdat_name, text_value, FunctionWordForm, KeptGroup, PlainWord, TextWord, Section, Comdat, Aligned, Attached, function_word, groups, some_local, param, param_type, heading, unlabelled, first_block, blocks, definition, declaration, IsPlainInit, InitForm, PlainInit, SquareInit, BracesInit, element_of, init_form, init_in, some_init, section_word, comdat_word, global_of, global, type_def, Item, TypeItem, VariableItem, FunctionItem, LineItem, IsPassiveLine, item, module_to_end}
 use Rattle.ir_core.specs.Forms.{IsItemName, nesting_limit}
-use Rattle.formed_laws.proofs.Within.{IsWithin, AllWithin, Within, of_kind, within_done, within_one, within_kind, within_then, within_list, within_either, within_any, within_laws}
+use Rattle.formed_laws.proofs.Within.{IsWithin, AllWithin, Within, within_done, within_one, of_kind, within_kind, within_then, within_any, within_either, within_list, within_laws}
 use Rattle.formed_laws.proofs.FormsWithin.{value_kind, within_forms}
 use Rattle.formed_laws.proofs.KindsWithin.{within_next_alignment, within_attachment}
 use Rattle.formed_laws.proofs.InstsWithin.{within_body, within_block}
@@ -23,37 +23,37 @@ within_item_word : Within (one IsItemWord)
 within_item_word = within_one item_word_kind
 
 within_kept_words : Within kept_words
-within_kept_words = search (within_laws, within_item_word) depth 20
+within_kept_words = search (within_laws, within_item_word)
 
 within_heading : Within heading
 within_heading = search (within_laws, within_forms, within_kept_words) depth 20
 
 within_comdat_name : Within comdat_name
-within_comdat_name = search within_laws depth 20
+within_comdat_name = search within_laws
 
 within_text_value : Within text_value
-within_text_value = search within_laws depth 20
+within_text_value = search within_laws
 
 within_function_word : (form : FunctionWordForm) → Within (function_word form)
-within_function_word KeptGroup = search within_laws depth 20
-within_function_word PlainWord = search within_laws depth 20
-within_function_word TextWord = search (within_laws, within_text_value) depth 20
-within_function_word Section = search within_laws depth 20
-within_function_word Comdat = search (within_laws, within_comdat_name) depth 20
-within_function_word Aligned = search within_laws depth 20
-within_function_word Attached = search (within_laws, within_attachment) depth 20
+within_function_word KeptGroup = search within_laws
+within_function_word PlainWord = search within_laws
+within_function_word TextWord = search (within_laws, within_text_value)
+within_function_word Section = search within_laws
+within_function_word Comdat = search (within_laws, within_comdat_name)
+within_function_word Aligned = search within_laws
+within_function_word Attached = search (within_laws, within_attachment)
 
 within_groups : Within groups
-within_groups = search (within_laws, within_function_word) depth 20
+within_groups = search (within_laws, within_function_word)
 
 within_some_local : Within some_local
-within_some_local = search within_laws depth 20
+within_some_local = search within_laws
 
 within_param : Within param
 within_param = search (within_laws, within_forms, within_some_local) depth 20
 
 within_param_type : Within param_type
-within_param_type = search (within_laws, within_forms) depth 20
+within_param_type = search (within_laws, within_forms)
 
 -- ---- functions
 
@@ -70,7 +70,7 @@ within_definition : Within definition
 within_definition = search (within_laws, within_heading, within_param, within_groups, within_blocks) depth 20
 
 within_declaration : Within declaration
-within_declaration = search (within_laws, within_heading, within_param_type, within_groups) depth 20
+within_declaration = search (within_laws, within_heading, within_param_type, within_groups)
 
 -- ---- initializers
 
@@ -85,7 +85,7 @@ within_plain_init : (ty : Ty) → Within (one (IsPlainInit ty))
 within_plain_init ty = within_one (plain_init_kind ty)
 
 within_element : (I : Ty → List Lexeme → Init → Type 0) → ((ty : Ty) → Within (I ty)) → Within (element_of I)
-within_element I h = search (within_laws, within_forms, h) depth 20
+within_element I h = search (within_laws, within_forms, h)
 
 within_init_form : (E : List Lexeme → Element → Type 0) → Within E → (ty : Ty) (form : InitForm) → Within (init_form E ty form)
 within_init_form E h ty PlainInit = within_plain_init ty
@@ -97,15 +97,15 @@ within_init_in zero ty = within_plain_init ty
 within_init_in (suc depth) ty = within_any (within_init_form (element_of (init_in depth)) (within_element (init_in depth) (within_init_in depth)) ty)
 
 within_some_init : (ty : Ty) → Within (some_init ty)
-within_some_init ty = search (within_laws, within_init_in nesting_limit ty) depth 20
+within_some_init ty = search (within_laws, within_init_in nesting_limit ty)
 
 -- ---- globals and types
 
 within_section_word : Within section_word
-within_section_word = search within_laws depth 20
+within_section_word = search within_laws
 
 within_comdat_word : Within comdat_word
-within_comdat_word = search within_laws depth 20
+within_comdat_word = search within_laws
 
 within_global_of : (name : List ℕ × ℕ) → Within (global_of name)
 within_global_of name = search (within_laws, within_forms, within_kept_words, within_some_init, within_section_word, within_comdat_word, within_next_alignment) depth 20
@@ -114,10 +114,10 @@ within_item_name : Within (one (with_line IsItemName))
 within_item_name = within_one (λ t x h. of_kind h.0.0.0 tt)
 
 within_global : Within global
-within_global = search (within_laws, within_item_name, within_global_of) depth 20
+within_global = search (within_laws, within_item_name, within_global_of)
 
 within_type_def : Within type_def
-within_type_def = search (within_laws, within_forms) depth 20
+within_type_def = search (within_laws, within_forms)
 
 -- ---- modules
 
@@ -135,4 +135,4 @@ within_item : Within item
 within_item = record { all = item_all }
 
 pub within_module : Within module_to_end
-within_module = search (within_laws, within_item) depth 20
+within_module = search (within_laws, within_item)

@@ -13,7 +13,7 @@ use Rattle.formed_laws.proofs.ItemsWithin.{within_module}
 abbrev ended : Bool → Bool → Token → List Token
 ended longer bad t = cond longer (cond bad [] (t ∷ [])) []
 
--- tokens of which none stands for bytes behind the limit have no such token at their end
+-- where no token stands for bytes behind the limit, nothing is added at the end
 none_past : (longer bad : Bool) (text : List ℕ) (t : Token) (ts : List Token) → t.kind ≡ Past → AllWithin (lexemes text (ts ++ ended longer bad t)) → ts ++ ended longer bad t ≡ ts
 none_past false bad text t ts p h = append-nil ts
 none_past true true text t ts p h = append-nil ts

@@ -1,4 +1,4 @@
--- What the tokens of a form have in common: none of them stands for bytes behind the limit of a text; and the laws of how forms are put together.
+-- Forms of which no token stands for bytes behind the limit of a text, and how they are put together.
 use Rattle.std.proofs.Common.{◌≡◌, ℕ, List, [], ◌∷◌, ◌++◌, sym, subst, inl, inr, ◌⊎◌}
 use Rattle.ir_core.specs.Tokens.{TokenKind, Past, Lexeme}
 use Rattle.ir_core.specs.Spell.{done, one, ◌>>=◌, any, many, word, Items, AtEnd, OneMore, items, list_to}
@@ -13,7 +13,7 @@ abbrev pub AllWithin : List Lexeme → Type 0
 AllWithin [] = Unit {0}
 AllWithin (t ∷ ts) = IsWithin t.kind × AllWithin ts
 
--- all tokens of the form do
+-- all tokens of what the form spells do
 pub record Within {X : Type 0} (S : List Lexeme → X → Type 0) : Type 0 where
   pub all : (ts : List Lexeme) (x : X) → S ts x → AllWithin ts
 
@@ -45,10 +45,11 @@ of_kind e h = subst IsWithin (sym e) h
 pub within_kind : {X : Type 0} {kind : TokenKind} {P : Lexeme → X → Type 0} → IsWithin kind → Within (one (λ t x. (t.kind ≡ kind) × P t x))
 within_kind w = within_one (λ t x h. of_kind h.0 w)
 
+-- of which nothing else is asked
 pub within_bare : {X : Type 0} {kind : TokenKind} → IsWithin kind → Within (one (λ t (x : X). t.kind ≡ kind))
 within_bare w = within_one (λ t x h. of_kind h w)
 
--- the same with its line
+-- with its line
 pub within_lined : {X : Type 0} {kind : TokenKind} {P : Lexeme → X × ℕ → Type 0} → IsWithin kind → Within (one (λ t x. ((t.kind ≡ kind) × P t x) × (t.line ≡ x.1)))
 within_lined w = within_one (λ t x h. of_kind h.0.0 w)
 
@@ -97,7 +98,9 @@ within_list {close = close} {S = S} s = within_any by
     by AtEnd = within_then (within_kind tt) (λ end. within_done)
     by OneMore = within_then s (λ x. within_then (within_many (within_next s)) (λ xs. within_then (within_kind tt) (λ end. within_done)))
 
+-- what is asked of every kind but one
 pub trivial : Unit {0}
 trivial = tt
 
+-- a form of many parts wants a deeper search
 pub ruleset within_laws = (trivial, within_done, within_word, within_natural, within_kind, within_bare, within_lined, within_then, within_any, within_maybe, within_many, within_dropped, within_next, within_list)
