@@ -4,21 +4,14 @@ use Rattle.std.proofs.lemmas.List.{length-replicate}
 use Rattle.std.proofs.lemmas.Bool.{and_parts, leb-true}
 use Rattle.std.proofs.lemmas.Nat.{pow_pos}
 use Rattle.std.proofs.Math.Nat.{mod-lt}
-use Rattle.std.proofs.lemmas.Slice.Eq.{bytes_eq-Decides}
-use Rattle.std.specs.List.{flat_map}
-use Rattle.std.specs.Str.{bytes_eq}
 use Rattle.ir_core.specs.declared.types.Ty.{Ty}
 use Rattle.ir_core.specs.declared.types.Ty.TheVariants.{Int as IntTy, Ptr}
 use Rattle.ir_core.specs.declared.module.Module.{Module}
 use Rattle.ir_core.specs.declared.module.Function.{Function}
 use Rattle.ir_core.specs.declared.module.Param.{Param}
-use Rattle.ir_core.specs.EntryPoints.{target_init, target_deinit}
-use Rattle.ir_core.specs.FirstForm as form
-use Rattle.ir_core.specs.FirstForm.{HasFirstForm, empty, is_bare_declaration, are_functions, only_functions, declares_init, declares_deinit, is_well_formed, is_int_of, is_void, are_init_params, are_deinit_params}
 use Rattle.ir_core.specs.Numbers.{fits, modulo}
-use Rattle.ir_core.specs.Places.{function_name, place_in}
-use Rattle.ir_core.specs.Text.{name_text}
-use Rattle.ir_core.specs.Wrappers.{is_in, block_callees}
+use Rattle.accepted_laws.proofs.Names.{names_are_places}
+use Rattle.checked_modules.specs.Checked.{HasNoRefusal}
 use Rattle.mem_model.specs.declared.launch.Launch.{Launch}
 use Rattle.mem_model.specs.declared.launch.Arg.{Arg}
 use Rattle.mem_model.specs.declared.launch.Arg.TheVariants.{Buffer, Int as IntArg, Null}
@@ -31,7 +24,7 @@ use Rattle.run_text.specs.Lines.{Line, lines, behind, numeral}
 use Rattle.run_text.specs.Kept.{kept_lines}
 use Rattle.run_text.specs.LaunchText.{ArgForm, Zeros, Bytes, NullForm, NumberForm, first_function, kernel_named, named_kernel, kernel_line, in_range, threads_line, steps_line, sized, arg_for, formed_arg, arg_form, or_fault, next_line, and_more, arguments, launch_with, launch_in, launch_limit, LaunchOf, fault_at}
 use Rattle.run_text.specs.Stages.{behind_steps, behind_threads, behind_kernel}
-use Rattle.run_text.proofs.Widths.{known_is}
+use Rattle.run_text.proofs.NamedKernels.{IsKernelOf, line_names_kernel}
 
 -- ---- arguments
 
@@ -101,60 +94,9 @@ args_fit end left (p ∷ ps) (l ∷ ls) args e =
     h)
     e
 
--- ---- the kernel
+-- ---- the lines
 
-no_blocks : {A : Type 0} (xs : List A) → empty xs ≡ true → xs ≡ []
-no_blocks [] e = refl
-no_blocks (x ∷ xs) e = let f : ⊥ = cc in absurd f
-
--- a declaration is no kernel
-bare_is_none : (name : List ℕ) (f : Function) → is_bare_declaration name f ≡ true → is_kernel f ≡ false
-bare_is_none name f e =
-    let p = and_parts _ (empty f.blocks) e in
-    ap (λ bs. is_in (flat_map block_callees bs) target_init) (no_blocks f.blocks p.1)
-
-pub record IsFirst (fs : List Function) (f : Function) : Type 0 where
-  pub named : place_in (map function_name fs) f.name ≡ Some 0
-  pub there : slice_get fs 0 ≡ Some f
-  pub kernel : is_kernel f ≡ true
-
-abbrev has_text : List ℕ → Function → Bool
-has_text name f = is_kernel f && bytes_eq (name_text f.name) name
-
-first_by : (name : List ℕ) (k i d f : Function) → is_kernel i ≡ false → is_kernel d ≡ false → (b : Bool) → has_text name k ≡ b → cond b (Some k) (cond (has_text name i) (Some i) (cond (has_text name d) (Some d) None)) ≡ Some f → IsFirst (k ∷ i ∷ d ∷ []) f
-first_by name k i d f not_i not_d true h e =
-    let same : k ≡ f = cc in
-    let itself = (bytes_eq-Decides k.name k.name).1 refl in
-    subst (IsFirst (k ∷ i ∷ d ∷ [])) same (record { named = rw itself refl; there = refl; kernel = (and_parts (is_kernel k) (bytes_eq (name_text k.name) name) h).0 })
-first_by name k i d f not_i not_d false h e =
-    let other_i : has_text name i ≡ false = ap (λ b. b && bytes_eq (name_text i.name) name) not_i in
-    let other_d : has_text name d ≡ false = ap (λ b. b && bytes_eq (name_text d.name) name) not_d in
-    let none : ◌≡◌ {A = Option Function} None (Some f) = sym (ap (λ b. cond b (Some i) (cond (has_text name d) (Some d) None)) other_i ∙ ap (λ b. cond b (Some d) None) other_d) ∙ e in
-    let g : ⊥ = cc in
-    absurd g
-
-kernel_first : (fs : List Function) → are_functions true fs ≡ true → (name : List ℕ) (f : Function) → first_function (has_text name) fs ≡ Some f → IsFirst fs f
-kernel_first (k ∷ i ∷ d ∷ []) h name f e =
-    let h3 = and_parts (form.is_kernel true k && is_well_formed k && declares_init i) (declares_deinit d) h in
-    let h2 = and_parts (form.is_kernel true k && is_well_formed k) (declares_init i) h3.0 in
-    let bare_i = and_parts (is_bare_declaration target_init i) (is_int_of 32 i.ret) (and_parts (is_bare_declaration target_init i && is_int_of 32 i.ret) (are_init_params i.params) h2.1).0 in
-    let bare_d = and_parts (is_bare_declaration target_deinit d) (is_void d.ret) (and_parts (is_bare_declaration target_deinit d && is_void d.ret) (are_deinit_params d.params) h3.1).0 in
-    first_by name k i d f (bare_is_none target_init i bare_i.0) (bare_is_none target_deinit d bare_d.0) (has_text name k) refl e
-kernel_first [] h name f e = absurd (let f : false ≡ true = h in cc)
-kernel_first (k ∷ []) h name f e = absurd (let f : false ≡ true = h in cc)
-kernel_first (k ∷ i ∷ []) h name f e = absurd (let f : false ≡ true = h in cc)
-kernel_first (k ∷ i ∷ d ∷ more ∷ fs) h name f e = absurd (let f : false ≡ true = h in cc)
-
-module _ (m : Module) (first : HasFirstForm m) where
-  named_first : (o : Option (List ℕ)) (f : Function) → named_kernel m o ≡ Ok f → IsFirst m.functions f
-  named_first None f e = let g : ⊥ = cc in absurd g
-  named_first (Some []) f e = let g : ⊥ = cc in absurd g
-  named_first (Some (c ∷ cs)) f e =
-      let p = and_parts (only_functions m) (are_functions true m.functions) first in
-      kernel_first m.functions p.1 (c ∷ cs) f (known_is (kernel_named m (c ∷ cs)) f e)
-
-  -- ---- the lines
-
+module _ (m : Module) (rules : HasNoRefusal m) where
   range_by : (limit : ℕ) (fault : LaunchFaultKind) (k n : ℕ) (b : Bool) → (nat_le 1 k && nat_le k limit) ≡ b → ◌≡◌ {A = Result ℕ LaunchFaultKind} (if b then Ok k else Err fault) (Ok n) → (1 ≤ n) × (n ≤ limit)
   range_by limit fault k n false h e = let f : ⊥ = cc in absurd f
   range_by limit fault k n true h e =
@@ -171,13 +113,13 @@ module _ (m : Module) (first : HasFirstForm m) where
   line_by end read [] go y k e = let f : ⊥ = cc in absurd f
   line_by end read (l ∷ ls) go y k e = fault_by l.number (read l.bytes) (λ x. go x ls) y (k l.bytes ls) e
 
-  args_by : (f : Function) (threads steps : ℕ) (l : Launch) → IsFirst m.functions f → (1 ≤ threads) × (threads ≤ threads_limit) → (1 ≤ steps) × (steps ≤ steps_limit) →
+  args_by : (f : Function) (threads steps : ℕ) (l : Launch) → IsKernelOf m f → (1 ≤ threads) × (threads ≤ threads_limit) → (1 ≤ steps) × (steps ≤ steps_limit) →
       (r : Result (List Arg) LaunchFault) → ((args : List Arg) → r ≡ Ok args → FitAll buffers_limit f.params args) → launch_with f threads steps r ≡ Ok l → Fits m l
   args_by f threads steps l is t s (Err fault) fit e = let g : ⊥ = cc in absurd g
   args_by f threads steps l is t s (Ok args) fit e =
       let same : ◌≡◌ {A = Launch} (record { kernel = f.name; threads = threads; steps = steps; args = args }) l = cc in
       let all = fit args refl in
-      subst (Fits m) same (record { place = 0; function = f; named = is.named; there = is.there; is_kernel = is.kernel; threads = t; steps = s; params = all.0; buffers = all.1 })
+      subst (Fits m) same (record { place = is.place; function = f; named = names_are_places m rules.names is.place f is.there; there = is.there; is_kernel = is.kernel; threads = t; steps = s; params = all.0; buffers = all.1 })
 
   launch_by : (end : ℕ) (ls : List Line) (l : Launch) → launch_in m end ls ≡ Ok l → Fits m l
   launch_by end ls l e =
@@ -185,7 +127,7 @@ module _ (m : Module) (first : HasFirstForm m) where
       (λ kernel more f k. line_by end threads_line more (behind_threads f end) l
       (λ threads_bytes more threads t. line_by end steps_line more (behind_steps f end threads) l
       (λ steps_bytes more steps s.
-      args_by f threads steps l (named_first (behind (codes "kernel ") kernel) f k)
+      args_by f threads steps l (line_names_kernel m kernel f k)
       (in_the_range threads_limit ThreadsRange (option_and_then numeral (behind (codes "threads ") threads_bytes)) threads t)
       (in_the_range steps_limit StepsRange (option_and_then numeral (behind (codes "steps ") steps_bytes)) steps s)
       (arguments end buffers_limit f.params more) (args_fit end buffers_limit f.params more))))

@@ -5,6 +5,7 @@ pub mod Pairs
 pub mod Calls
 pub mod ArgumentForms
 pub mod Launches
+pub mod NamedKernels
 pub mod Widths
 pub mod ReadFronts
 pub mod Fitting

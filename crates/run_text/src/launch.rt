@@ -1,6 +1,6 @@
 //! The text of a launch.
 ghost use Rattle.std.specs.Prelude.{◌≡◌, ◌<◌, ◌+◌, ◌^◌, Ok as OkOf, Err as ErrOf, codes, length, option_and_then, MatchResult};
-ghost use Rattle.ir_core.specs.FirstForm.{HasFirstForm};
+ghost use Rattle.checked_modules.specs.Checked.{HasNoRefusal};
 ghost use Rattle.mem_model.specs.Launching.{threads_limit, steps_limit, buffers_limit};
 ghost use Rattle.run_text.specs.Lines.{behind, numeral, lines};
 ghost use Rattle.run_text.specs.LaunchText.{launch_limit, kernel_line, in_range, arguments, launch_in, LaunchOf, fault_at};
@@ -223,7 +223,7 @@ fn read_behind_kernel(
 }
 
 fn read_lines(alloc: Global, m: &Module, text: &[u8]) -> Result<Launch, Or<LaunchFault>>
-    requires form { HasFirstForm m.now }
+    requires rules { HasNoRefusal m.now }
     requires room { length text.now < 2 ^ 31 }
     ensures { Answers (launch_in m.now (length (lines text.now) + 1) (kept_lines 1 text.now)) result }
 {
