@@ -40,7 +40,8 @@ text_refusal_same a b r e h =
 
 refusal_same : (a b : List ℕ) (r : Refusal) → Alike a b → IsRefusal a r → IsRefusal b r
 refusal_same a b r e (inl h) = inl (text_refusal_same a b r e h)
-refusal_same a b r e (inr (m, reads, refused)) = inr (m, reads_same a b m e reads, refused)
+refusal_same a b r e (inr (inl (m, reads, refused))) = inr (inl (m, reads_same a b m e reads, refused))
+refusal_same a b r e (inr (inr (m, reads, rules, call))) = inr (inr (m, reads_same a b m e reads, rules, call))
 
 turned : (a b : List ℕ) → Alike a b → Alike b a
 turned a b e = record { fronts = sym e.fronts; longer = sym e.longer }
@@ -59,10 +60,10 @@ alike text = record {
     by_length (inr short) = le-ltb text_limit (length (take read_limit text)) (omega (arith, n)) ∙ sym (le-ltb text_limit (length text) short)
 
 pub accepts_front : (text : List ℕ) (m : Module) → Accepts text m → Accepts (take read_limit text) m
-accepts_front text m (reads, form) = (reads_same text (take read_limit text) m (turned (take read_limit text) text (alike text)) reads, form)
+accepts_front text m (reads, rules, calls) = (reads_same text (take read_limit text) m (turned (take read_limit text) text (alike text)) reads, rules, calls)
 
 pub accepts_whole : (text : List ℕ) (m : Module) → Accepts (take read_limit text) m → Accepts text m
-accepts_whole text m (reads, form) = (reads_same (take read_limit text) text m (alike text) reads, form)
+accepts_whole text m (reads, rules, calls) = (reads_same (take read_limit text) text m (alike text) reads, rules, calls)
 
 pub refused_whole : (text : List ℕ) (status : ℕ) (out notes : List ℕ) → IsTextRefused (take read_limit text) status out notes → IsTextRefused text status out notes
 refused_whole text status out notes (r, refusal, none, note) = (r, refusal_same (take read_limit text) text r (alike text) refusal, (λ m accepts. none m (accepts_front text m accepts)), note)

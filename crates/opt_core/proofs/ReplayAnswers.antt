@@ -5,9 +5,9 @@ use Rattle.std.proofs.lemmas.List.{length-map}
 use Rattle.std.proofs.lemmas.Slice.Eq.{bytes_eq-Decides}
 use Rattle.ir_core.specs.declared.module.Module.{Module}
 use Rattle.ir_core.specs.declared.answers.OutOfMemory.{OutOfMemory}
-use Rattle.ir_core.specs.FirstForm.{HasFirstForm}
 use Rattle.ir_core.specs.MachineOff.{machine_off}
 use Rattle.ir_core.specs.Tokens.{text_limit}
+use Rattle.checked_modules.specs.Checked.{HasNoRefusal}
 use Rattle.mem_model.specs.declared.launch.Launch.{Launch}
 use Rattle.mem_model.specs.declared.step.End.{End}
 use Rattle.mem_model.specs.declared.step.End.TheVariants.{Running, Ended, Stuck, Trapped}
@@ -90,12 +90,12 @@ schedule_file m l held bytes r = of_read (λ text. IsScheduleReply m l text r.st
 
 -- ---- launches
 
-pub launch_reply : (m : Module) (schedule : Option (List ℕ)) (text : List ℕ) (l : Launch) (reply : Result Reply ReadFault) → HasFirstForm m → LaunchOf m text ≡ Ok l → IfOk reply (λ r. OfText schedule (λ t. IsScheduleReply m l t r.status r.out r.notes)) →
+pub launch_reply : (m : Module) (schedule : Option (List ℕ)) (text : List ℕ) (l : Launch) (reply : Result Reply ReadFault) → HasNoRefusal m → LaunchOf m text ≡ Ok l → IfOk reply (λ r. OfText schedule (λ t. IsScheduleReply m l t r.status r.out r.notes)) →
     IfOk reply (λ r. IsLaunchReply m schedule (LaunchOf m text) r.status r.out r.notes)
-launch_reply m schedule text l reply form e h = subst (λ (x : Result Launch LaunchFault). IfOk reply (λ r. IsLaunchReply m schedule x r.status r.out r.notes)) (sym e) (by reply h)
+launch_reply m schedule text l reply rules e h = subst (λ (x : Result Launch LaunchFault). IfOk reply (λ r. IsLaunchReply m schedule x r.status r.out r.notes)) (sym e) (by reply h)
   where
     by : (reply : Result Reply ReadFault) → IfOk reply (λ r. OfText schedule (λ t. IsScheduleReply m l t r.status r.out r.notes)) → IfOk reply (λ r. IsLaunchReply m schedule (Ok l) r.status r.out r.notes)
-    by (Ok r) k = (launch_fits m form text l e, k)
+    by (Ok r) k = (launch_fits m rules text l e, k)
     by (Err x) k = tt
 
 -- ---- counts of faults
@@ -148,7 +148,7 @@ module _ (held : List ℕ → Option (List ℕ)) (p : Paths) (bytes : List ℕ) 
   module_file told m (Ok r) same accepts h =
       let all : told ≡ held = λ i. λ other. same other i in
       let reply = subst (λ (t : List ℕ → Option (List ℕ)). OfText (t p.launch) (λ l. IsLaunchReply m (t p.schedule) (LaunchOf m l) r.status r.out r.notes)) all h in
-      replied r (inr (m, accepts, (λ l fits. machine_off_refines m l accepts.1.none.form fits), reply))
+      replied r (inr (m, accepts, (λ form l fits. machine_off_refines m l form fits), reply))
 
   pub module_refused : (r : Reply) → IsTextRefused bytes r.status r.out r.notes → IsFilesReply held p r.status r.out r.notes
   module_refused r refused = replied r (inl refused)

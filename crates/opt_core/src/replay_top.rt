@@ -1,6 +1,6 @@
 //! The top call of `replay`: what the program answers to its words, over the inputs and into the sinks.
 ghost use Rattle.std.specs.Prelude.{◌≡◌, ◌⊎◌, ◌+◌, ◌≤◌, IfOk, IfErr, MatchOption, None, Some};
-ghost use Rattle.ir_core.specs.FirstForm.{HasFirstForm};
+ghost use Rattle.checked_modules.specs.Checked.{HasNoRefusal};
 ghost use Rattle.io_edge.specs.Outside.{Rose};
 ghost use Rattle.run_text.specs.LaunchText.{launch_limit, LaunchOf};
 ghost use Rattle.run_text.specs.ScheduleText.{schedule_limit};
@@ -89,7 +89,7 @@ fn reply_to_launch<I: Inputs>(
     inputs: &mut I,
     schedule: &str,
 ) -> Result<Reply, ReadFault>
-    requires form { HasFirstForm m.now }
+    requires rules { HasNoRefusal m.now }
     requires served { I.served inputs.old schedule.now }
     ensures reply { IfOk result (λ r. IsLaunchReply m.now (I.held inputs.old schedule.now) (LaunchOf m.now text.now) r.status r.out r.notes) }
     ensures cause { IfErr result (λ e. e ≡ ReadFault.Failed → SpellsLaunch m.now text.now × Rose (I.faults inputs.old schedule.now) (I.faults inputs.new schedule.now)) }
@@ -108,7 +108,7 @@ fn reply_to_module<I: Inputs>(
     inputs: &mut I,
     paths: &Paths<'_>,
 ) -> Result<Reply, ReadFault>
-    requires form { HasFirstForm m.now }
+    requires rules { HasNoRefusal m.now }
     requires launch { I.served inputs.old paths.now.launch.now }
     requires schedule { I.served inputs.old paths.now.schedule.now }
     ensures reply { IfOk result (λ r. OfText (I.held inputs.old paths.now.launch.now) (λ l. IsLaunchReply m.now (I.held inputs.old paths.now.schedule.now) (LaunchOf m.now l) r.status r.out r.notes)) }

@@ -2,7 +2,7 @@ use Rattle.std.proofs.Common.{sym, subst}
 use Rattle.ir_core.specs.MachineOff.{machine_off}
 use Rattle.interp.specs.Teams.{AreThreads}
 use Rattle.interp_local.specs.Steps.{AreSized}
-use Rattle.interp_local.proofs.FirstForms.{sized_form}
+use Rattle.opt_core.proofs.OutputSizes.{are_sized}
 use Rattle.opt_core.proofs.ReplayAnswers.{starts_alike, run_reply}
 use Rattle.opt_core.proofs.replay_reply.replayed.Goals as goal
 
@@ -10,7 +10,7 @@ pub replay-requires-clause-threads : goal.replay-requires-clause-threads
 replay-requires-clause-threads c = subst (λ n. AreThreads n c.args.team.threads.items) (sym c.indexed.ensures.same) c.requires.threads
 
 pub replay-requires-clause-sized : goal.replay-requires-clause-sized
-replay-requires-clause-sized c = subst AreSized (sym c.indexed.ensures.same) (sized_form c.args.out.now c.indexed.ensures.form).1
+replay-requires-clause-sized c = subst AreSized (sym c.indexed.ensures.same) (are_sized c.args.out.now c.indexed.ensures.rules)
 
 pub returns-in-Ok : goal.returns-in-Ok
 returns-in-Ok c =

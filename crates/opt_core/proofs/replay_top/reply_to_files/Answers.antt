@@ -4,8 +4,8 @@ use Rattle.opt_core.specs.ReplayStages.{paths_seen}
 use Rattle.opt_core.proofs.ReplayAnswers.{read_to, module_file, module_refused, behind_module, never_falls}
 use Rattle.opt_core.proofs.replay_top.reply_to_files.Goals as goal
 
-pub reply_to_module-requires-clause-form : goal.reply_to_module-requires-clause-form
-reply_to_module-requires-clause-form g c = c.in-Ok.ensures.taken.1.none.form
+pub reply_to_module-requires-clause-rules : goal.reply_to_module-requires-clause-rules
+reply_to_module-requires-clause-rules g c = c.in-Ok.ensures.taken.1
 
 pub returns-in-Ok-clause-reply : goal.returns-in-Ok-clause-reply
 returns-in-Ok-clause-reply g c =
