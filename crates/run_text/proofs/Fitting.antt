@@ -1,5 +1,5 @@
 -- A launch that is read of a module's text fits the module.
-use Rattle.std.proofs.Common.{◌≡◌, ℕ, ◌+◌, ◌-◌, ◌^◌, ◌<◌, ◌≤◌, List, [], ◌∷◌, length, map, replicate, codes, Option, Some, None, option_and_then, slice_get, Result, Ok, Err, Bool, true, false, cond, nat_lt, nat_le, ◌&&◌, if◌then◌else◌, refl, sym, ap, ◌∙◌, subst, arith}
+use Rattle.std.proofs.Common.{◌≡◌, ℕ, ◌+◌, ◌-◌, ◌^◌, ◌<◌, ◌≤◌, List, [], ◌∷◌, length, replicate, codes, Option, Some, None, option_and_then, Result, Ok, Err, Bool, true, false, nat_lt, nat_le, ◌&&◌, if◌then◌else◌, refl, subst, arith}
 use Rattle.std.proofs.lemmas.List.{length-replicate}
 use Rattle.std.proofs.lemmas.Bool.{and_parts, leb-true}
 use Rattle.std.proofs.lemmas.Nat.{pow_pos}
@@ -16,13 +16,13 @@ use Rattle.mem_model.specs.declared.launch.Launch.{Launch}
 use Rattle.mem_model.specs.declared.launch.Arg.{Arg}
 use Rattle.mem_model.specs.declared.launch.Arg.TheVariants.{Buffer, Int as IntArg, Null}
 use Rattle.mem_model.specs.Memory.{block_limit}
-use Rattle.mem_model.specs.Launching.{Fits, FitsParam, FitParams, is_kernel, buffer_size, buffer_sizes, threads_limit, steps_limit, buffers_limit}
+use Rattle.mem_model.specs.Launching.{Fits, FitsParam, FitParams, buffer_size, buffer_sizes, threads_limit, steps_limit, buffers_limit}
 use Rattle.run_text.specs.declared.launch.LaunchFaultKind.{LaunchFaultKind}
 use Rattle.run_text.specs.declared.launch.LaunchFaultKind.TheVariants.{ArgumentForm, ArgumentSize, ThreadsRange, StepsRange, TextSize}
 use Rattle.run_text.specs.declared.launch.LaunchFault.{LaunchFault}
 use Rattle.run_text.specs.Lines.{Line, lines, behind, numeral}
 use Rattle.run_text.specs.Kept.{kept_lines}
-use Rattle.run_text.specs.LaunchText.{ArgForm, Zeros, Bytes, NullForm, NumberForm, first_function, kernel_named, named_kernel, kernel_line, in_range, threads_line, steps_line, sized, arg_for, formed_arg, arg_form, or_fault, next_line, and_more, arguments, launch_with, launch_in, launch_limit, LaunchOf, fault_at}
+use Rattle.run_text.specs.LaunchText.{ArgForm, Zeros, Bytes, NullForm, NumberForm, kernel_line, in_range, threads_line, steps_line, sized, arg_for, formed_arg, arg_form, or_fault, next_line, and_more, arguments, launch_with, launch_in, launch_limit, LaunchOf, fault_at}
 use Rattle.run_text.specs.Stages.{behind_steps, behind_threads, behind_kernel}
 use Rattle.run_text.proofs.NamedKernels.{IsKernelOf, line_names_kernel}
 

@@ -1,5 +1,5 @@
 -- Where the kernel stands that a line names.
-use Rattle.std.proofs.Common.{◌≡◌, ℕ, zero, suc, List, [], ◌∷◌, codes, Option, Some, None, Ok, Bool, true, false, cond, ◌&&◌, refl, ap, subst, slice_get}
+use Rattle.std.proofs.Common.{◌≡◌, ℕ, suc, List, [], ◌∷◌, codes, Option, Some, None, Ok, Bool, true, false, cond, refl, ap, subst, slice_get}
 use Rattle.std.proofs.lemmas.Bool.{and_parts}
 use Rattle.std.specs.Str.{bytes_eq}
 use Rattle.ir_core.specs.declared.module.Module.{Module}

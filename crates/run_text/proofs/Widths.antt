@@ -1,5 +1,5 @@
 -- The parameters of a kernel are pointers and integers of 64 bits or fewer.
-use Rattle.std.proofs.Common.{◌≡◌, ℕ, zero, suc, ◌≤◌, List, [], ◌∷◌, Option, Some, None, Ok, Bool, true, false, cond, codes, ◌&&◌, ◌==◌, refl, ap, subst, arith}
+use Rattle.std.proofs.Common.{◌≡◌, ℕ, zero, suc, ◌≤◌, List, [], ◌∷◌, Ok, Bool, true, false, cond, ◌==◌, refl, arith}
 use Rattle.std.proofs.lemmas.Bool.{and_parts, eqb-true}
 use Rattle.std.specs.List.{list_all}
 use Rattle.ir_core.specs.declared.types.Ty.{Ty}

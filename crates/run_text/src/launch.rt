@@ -11,8 +11,8 @@ ghost use Rattle.run_text.specs.Replies.{Answers};
 use crate::arguments::{left_behind, numeral_behind, read_arg, surplus};
 use crate::kernels::kernel_named;
 use crate::lines::{behind, line_count, next_kept};
-use ir_core::{Function, List, Module, Name, Or, Param};
 use checked_modules::Checked;
+use ir_core::{Function, List, Module, Name, Or, Param};
 use mem_model::{Arg, Launch};
 use std::alloc::Global;
 
