@@ -40,10 +40,15 @@ fn status_of(alloc: Global, text: &[u8]) -> Result<u8, AllocError> {
     Ok(opt_main(alloc, words.as_slice(), &mut inputs, &mut out, &mut notes))
 }
 
+/// The first 100 bytes of a text.
+fn front(text: &[u8]) -> &[u8] {
+    if text.len() < 100 { text } else { &text[..100] }
+}
+
 #[test]
 fn statuses(rt: HostRuntime) -> Result<(), Fail> {
     let kernel = STORE_SEVEN.as_bytes();
-    for (text, status) in [(kernel, 0), (b"".as_slice(), 3), (&kernel[..100], 3)] {
+    for (text, status) in [(kernel, 0), (b"".as_slice(), 3), (front(kernel), 3)] {
         assert_eq!(rt; status_of(rt.alloc(), text)?, status);
     }
     Ok(())
