@@ -4,11 +4,17 @@
 #[cfg(test)]
 mod checking;
 #[cfg(test)]
+mod launching;
+#[cfg(test)]
 mod printing;
 #[cfg(test)]
 mod reading;
 #[cfg(test)]
 mod refused;
+#[cfg(test)]
+mod replaying;
+#[cfg(test)]
+mod running;
 #[cfg(test)]
 mod shaping;
 #[cfg(test)]
