@@ -18,4 +18,6 @@ mod running;
 #[cfg(test)]
 mod shaping;
 #[cfg(test)]
+mod stepping;
+#[cfg(test)]
 mod texts;

@@ -26,12 +26,17 @@ fn file_of(alloc: Global, name: &str, text: &[u8]) -> Result<NamedFile, AllocErr
     })
 }
 
-/// Inputs that hold the kernel, a launch and a schedule.
-fn files_of(alloc: Global, launch: &[u8], schedule: &[u8]) -> Result<SureInputs, AllocError>
+/// Inputs that hold a module, a launch and a schedule.
+fn files_of(
+    alloc: Global,
+    module: &[u8],
+    launch: &[u8],
+    schedule: &[u8],
+) -> Result<SureInputs, AllocError>
     ensures { IfOk result (λ inputs. names_of inputs ≡ codes "a.ll" ∷ codes "launch" ∷ codes "schedule" ∷ []) }
 {
     let mut files = List::new(alloc);
-    files.push(file_of(alloc, "a.ll", STORE_SEVEN.as_bytes())?)?;
+    files.push(file_of(alloc, "a.ll", module)?)?;
     files.push(file_of(alloc, "launch", launch)?)?;
     files.push(file_of(alloc, "schedule", schedule)?)?;
     Ok(SureInputs::new(files))
@@ -48,17 +53,23 @@ fn replay_words(alloc: Global) -> Result<Vec<String>, AllocError>
     Ok(words)
 }
 
-/// The status of a replay of the kernel, and what is written on the output and on the notes.
+/// The status of a replay, and what is written on the output and on the notes.
 #[derive(Drop)]
-struct Answer {
-    status: u8,
-    out: Vec<u8>,
-    notes: Vec<u8>,
+pub(crate) struct Answer {
+    pub(crate) status: u8,
+    pub(crate) out: Vec<u8>,
+    pub(crate) notes: Vec<u8>,
 }
 
-fn answer_of(alloc: Global, launch: &[u8], schedule: &[u8]) -> Result<Answer, AllocError> {
+/// The answer to a module, a launch and a schedule.
+pub(crate) fn answer_of(
+    alloc: Global,
+    module: &[u8],
+    launch: &[u8],
+    schedule: &[u8],
+) -> Result<Answer, AllocError> {
     let words = replay_words(alloc)?;
-    let mut inputs = files_of(alloc, launch, schedule)?;
+    let mut inputs = files_of(alloc, module, launch, schedule)?;
     let (mut out, mut notes) = (Vec::new(alloc), Vec::new(alloc));
     let mut output = StreamSink::new(&mut out);
     let mut noted = StreamSink::new(&mut notes);
@@ -70,6 +81,11 @@ fn answer_of(alloc: Global, launch: &[u8], schedule: &[u8]) -> Result<Answer, Al
         &mut noted,
     );
     Ok(Answer { status, out, notes })
+}
+
+/// The answer to a launch and a schedule of the kernel that stores 7.
+fn seven_of(alloc: Global, launch: &[u8], schedule: &[u8]) -> Result<Answer, AllocError> {
+    answer_of(alloc, STORE_SEVEN.as_bytes(), launch, schedule)
 }
 
 /// A launch and a schedule, with the status and what is written.
@@ -191,7 +207,7 @@ const ROWS: [Row; 15] = [
 
 /// Whether the answer to the row's texts is what the row says.
 fn is_answered(alloc: Global, row: &Row) -> Result<bool, AllocError> {
-    let answer = answer_of(alloc, row.launch.as_bytes(), row.schedule.as_bytes())?;
+    let answer = seven_of(alloc, row.launch.as_bytes(), row.schedule.as_bytes())?;
     Ok(
         answer.status == row.status
             && answer.out.as_slice() == row.out.as_bytes()
@@ -224,7 +240,7 @@ fn is_noted(
     schedule: &[u8],
     line: &[u8],
 ) -> Result<bool, AllocError> {
-    let answer = answer_of(alloc, launch, schedule)?;
+    let answer = seven_of(alloc, launch, schedule)?;
     Ok(answer.notes.as_slice() == line)
 }
 
