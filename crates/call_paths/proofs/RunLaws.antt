@@ -1,18 +1,23 @@
 -- The graph of calls and forks, function by function, and what kernels run.
-use Rattle.std.proofs.Common.{◌≡◌, ℕ, ◌+◌, ◌<◌, ◌≤◌, List, [], length, Bool, true, false, Some, slice_get, ◌⊎◌, inl, inr, sym, ap, subst, ◌∙◌, arith}
+use Rattle.std.proofs.Common.{◌≡◌, ℕ, ◌+◌, ◌<◌, ◌≤◌, List, [], ◌∷◌, length, map, Bool, true, false, Option, None, Some, slice_get, ◌⊎◌, inl, inr, refl, sym, ap, subst, ◌∙◌, arith}
 use Rattle.std.specs.List.{flat_map}
 use Rattle.std.proofs.lemmas.Bool.{cases_eq}
+use Rattle.std.proofs.lemmas.List.{length-map}
 use Rattle.std.proofs.lemmas.Option.{slice_get_within}
+use Rattle.ir_core.specs.declared.instructions.Inst.{Inst}
 use Rattle.ir_core.specs.declared.module.Module.{Module}
 use Rattle.ir_core.specs.declared.module.Function.{Function}
+use Rattle.ir_core.specs.Places.{Name, function_name, function_place}
+use Rattle.ir_tables.proofs.Scans.{place_from-within}
 use Rattle.reach.specs.Chains.{Leads}
 use Rattle.reach.specs.Marks.{HopsTo}
 use Rattle.shapes.specs.CallPaths.{Calls, Forks, IsKernelAt}
 use Rattle.shapes.specs.Facts.{insts_of}
 use Rattle.shapes.specs.KernelShape.{is_kernel}
 use Rattle.call_graph.specs.Graphs.{IsGraphOf, Adds}
-use Rattle.call_graph.specs.Targets.{forked}
-use Rattle.call_graph.proofs.ListLaws.{Among}
+use Rattle.shapes.specs.Uses.{fork_names}
+use Rattle.call_graph.specs.Targets.{as_list, forked}
+use Rattle.call_graph.proofs.ListLaws.{Among, last_is, none_among, within_joined}
 use Rattle.call_graph.proofs.SideLaws.{forks_it, is_forked}
 use Rattle.call_paths.specs.Known.{IsRowOf}
 use Rattle.call_paths.specs.Rows.{CallsOrForks}
@@ -68,6 +73,21 @@ module _ (m : Module) (at : ℕ) (f : Function) (there : slice_get m.functions a
     size = adds.size ∙ g.size;
     same = λ from to. (λ h. hops_next from to ((adds.same from to).0 h), λ h. (adds.same from to).1 (are_hops from to h));
   }
+
+place_within : (m : Module) (x : Name) (o : Option ℕ) (to : ℕ) → function_place m x ≡ o → Among (as_list o) to → to < length m.functions
+place_within m x None to place h = absurd (none_among to h)
+place_within m x (Some k) to place h =
+    let same = last_is k to h in
+    let low = place_from-within 0 k (map function_name m.functions) x place in
+    let size = length-map m.functions function_name in
+    omega (arith, low, size, same)
+
+-- what an instruction forks is a function of the module
+pub forked_within : (m : Module) (i : Inst) (to : ℕ) → to ∷ [] ≡ forked m i → to < length m.functions
+forked_within m i to e =
+    let P : List ℕ → Type 0 = λ places. Among places to in
+    let found = within_joined (λ x. as_list (function_place m x)) (fork_names i) to (subst P e (0, refl)) in
+    place_within m found.0 (function_place m found.0) to refl found.2
 
 -- ---- what a kernel runs
 

@@ -6,7 +6,9 @@ use Rattle.call_paths.proofs.RowLaws.{rows_none, rows_next}
 use Rattle.call_paths.proofs.rows.all_rows.Goals as goal
 
 pub loop-from-init : goal.loop-from-init
-loop-from-init c = rows_none (Leads (HopsTo c.args.graph.now))
+loop-from-init c =
+    let P : List (List Bool) → Type 0 = λ rows. AreRowsOf (Leads (HopsTo c.args.graph.now)) 0 rows in
+    subst P (sym c.new-rows.ensures) (rows_none (Leads (HopsTo c.args.graph.now)))
 
 pub loop-from-preserved : goal.loop-from-preserved
 loop-from-preserved c =
@@ -19,5 +21,5 @@ pub returns : goal.returns
 returns c =
     let graph = c.args.graph.now in
     let P : ℕ → Type 0 = λ n. AreRowsOf (Leads (HopsTo graph)) n c.loop-from.rows in
-    let all : c.loop-from.from ≡ length graph = omega (arith, c.loop-from-test.false, c.loop-from.auto.from-end, c.len.ensures) in
+    let all : c.loop-from.from ≡ length graph = omega (arith, c.loop-from-test.false, c.loop-from.auto.from-end, c.len-from-end.ensures) in
     subst P all c.loop-from.invariant

@@ -1,11 +1,19 @@
 use Rattle.std.proofs.Common.{◌<◌, ◌+◌, ℕ, List, length, take, ap, sym, subst, ◌∙◌, arith}
 use Rattle.std.specs.List.{flat_map}
-use Rattle.shapes.specs.Insts.{insts_seen}
+use Rattle.shapes.specs.Insts.{inst_seen, insts_seen}
 use Rattle.call_graph.specs.Graphs.{Adds}
 use Rattle.call_graph.specs.Targets.{as_list, forked}
 use Rattle.call_graph.proofs.GraphLaws.{given_none, given_one}
+use Rattle.call_paths.proofs.RunLaws.{forked_within}
 use Rattle.call_paths.proofs.running.add_forks.Goals as goal
 use Rattle.call_paths.proofs.running.add_forks.Goals.{in-Some+in_ok-add, in_default}
+
+pub add-requires-clause-to : goal.add-requires-clause-to
+add-requires-clause-to c =
+    let low = forked_within c.args.m.now (inst_seen c.inst-item.result) c.in-Some.to (ap as_list (sym c.in-Some.is) ∙ c.forked.ensures) in
+    let size = c.loop-inst.invariant.size in
+    let nodes = c.requires.size in
+    omega (arith, low, size, nodes)
 
 pub loop-inst-preserved : goal.loop-inst-preserved
 loop-inst-preserved c =
