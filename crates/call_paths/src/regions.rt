@@ -52,7 +52,11 @@ fn share_mark(row: &[bool], other: &[bool]) -> bool
 
 /// For each function whether a call path leads from it to a fork, by the rows of what each function reaches.
 /// `OutOfMemory` only where no memory was left.
-pub fn reaching(alloc: Global, m: &Module, reaches: &[List<bool>]) -> Result<List<bool>, OutOfMemory>
+pub fn reaching(
+    alloc: Global,
+    m: &Module,
+    reaches: &[List<bool>],
+) -> Result<List<bool>, OutOfMemory>
     requires { AreRowsOf (Reaches m.now) (length m.now.functions) reaches.now }
     ensures { IfOk result (IsRowOf (ReachesRegion m.now)) }
 {

@@ -50,7 +50,12 @@ fn with_forks(alloc: Global, m: &Indexed, calls: Graph) -> Result<Graph, OutOfMe
 }
 
 /// The row of a function: the functions that it runs, if it is a kernel.
-fn runs_from(alloc: Global, m: &Indexed, graph: &Graph, at: usize) -> Result<List<bool>, OutOfMemory>
+fn runs_from(
+    alloc: Global,
+    m: &Indexed,
+    graph: &Graph,
+    at: usize,
+) -> Result<List<bool>, OutOfMemory>
     requires at { at < length m.now.functions }
     requires graph { IsGraphOf (CallsOrForks m.now) (length m.now.functions) graph.now }
     ensures { IfOk result (IsRowOf (Runs m.now at)) }
