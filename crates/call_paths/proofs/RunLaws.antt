@@ -74,6 +74,8 @@ module _ (m : Module) (at : ℕ) (f : Function) (there : slice_get m.functions a
     same = λ from to. (λ h. hops_next from to ((adds.same from to).0 h), λ h. (adds.same from to).1 (are_hops from to h));
   }
 
+-- ---- what an instruction forks
+
 place_within : (m : Module) (x : Name) (o : Option ℕ) (to : ℕ) → function_place m x ≡ o → Among (as_list o) to → to < length m.functions
 place_within m x None to place h = absurd (none_among to h)
 place_within m x (Some k) to place h =
@@ -82,7 +84,7 @@ place_within m x (Some k) to place h =
     let size = length-map m.functions function_name in
     omega (arith, low, size, same)
 
--- what an instruction forks is a function of the module
+-- it is a function of the module
 pub forked_within : (m : Module) (i : Inst) (to : ℕ) → to ∷ [] ≡ forked m i → to < length m.functions
 forked_within m i to e =
     let P : List ℕ → Type 0 = λ places. Among places to in
