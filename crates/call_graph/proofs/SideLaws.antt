@@ -106,10 +106,10 @@ all_regions m n places all are at = (
 )
 
 module _ (m : Module) (n : ℕ) (f : Function) (there : slice_get m.functions n ≡ Some f) where
-  forks_it : (to : ℕ) → Among (flat_map (forked m) (insts_of f)) to → Forks m n to
+  pub forks_it : (to : ℕ) → Among (flat_map (forked m) (insts_of f)) to → Forks m n to
   forks_it to h = let w = named (function_place m) fork_names (insts_of f) to h in (f, w.0, there, w.1, w.2)
 
-  is_forked : (to : ℕ) → Forks m n to → Among (flat_map (forked m) (insts_of f)) to
+  pub is_forked : (to : ℕ) → Forks m n to → Among (flat_map (forked m) (insts_of f)) to
   is_forked to h =
       let there_too = h.2 in
       let same : h.0 ≡ f = cc in

@@ -9,4 +9,4 @@ mod sides;
 
 pub use graphs::calls;
 pub use nested::of_nested;
-pub use sides::{main_side, region_side};
+pub use sides::{forked, main_side, region_side};

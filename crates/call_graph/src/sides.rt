@@ -36,7 +36,7 @@ pub fn main_side(alloc: Global, m: &Indexed, calls: &Graph) -> Result<Vec<bool>,
 }
 
 /// The place of the region function that an instruction forks.
-fn forked(m: &Indexed, inst: &Inst) -> Option<usize>
+pub fn forked(m: &Indexed, inst: &Inst) -> Option<usize>
     ensures { as_list result ≡ forked m.now inst.now }
 {
     if !is_call_of(Rtl::Parallel, inst) {

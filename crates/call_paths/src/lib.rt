@@ -3,5 +3,8 @@
 #![tactic(auto)]
 
 mod calls;
+mod regions;
+mod rows;
+mod running;
 
 pub use calls::{Calls, Side};
