@@ -12,9 +12,9 @@ use crate::replay_reply::{launch_refused, reply_to_schedule};
 use crate::reply::{
     Reply, bad_words, note_of, read_checked, refused, text_read_limit, write_reply,
 };
+use checked_modules::Checked;
 use io_edge::{Inputs, ReadFault, Sink, read_file};
 use ir_core::Or;
-use checked_modules::Checked;
 use mem_model::Launch;
 use run_text::read_launch;
 use std::alloc::Global;
