@@ -1,11 +1,14 @@
 -- Replies, and what is written of them.
-use Rattle.std.proofs.Common.{◌≡◌, ◌⊎◌, ℕ, ◌<◌, ◌≤◌, List, [], ◌++◌, Option, Some, None, Result, Ok, Err, IfOk, IfErr, refl, sym, ap, ◌∙◌, subst, arith, inl, inr, codes}
+use Rattle.std.proofs.Common.{◌≡◌, ◌⊎◌, ℕ, suc, ◌<◌, ◌≤◌, List, [], ◌∷◌, ◌++◌, Bool, true, false, slice_index_or, Fits, w8, if◌then◌else◌, Option, Some, None, Result, Ok, Err, IfOk, IfErr, refl, sym, ap, ◌∙◌, subst, arith, inl, inr, codes}
+use Rattle.std.proofs.lemmas.Bool.{lt-ltb}
 use Rattle.std.proofs.lemmas.List.{append-nil}
 use Rattle.ir_core.specs.declared.module.Module.{Module}
 use Rattle.ir_core.specs.declared.answers.Or.{Or}
 use Rattle.ir_core.specs.declared.answers.Or.TheVariants.{Refused, Memory}
 use Rattle.ir_core.specs.declared.answers.OutOfMemory.{OutOfMemory}
 use Rattle.ir_core.specs.declared.refusal.Refusal.{Refusal}
+use Rattle.ir_core.specs.Bytes.{every}
+use Rattle.ir_core.specs.Formed.{is_byte}
 use Rattle.ir_core.specs.Language.{Reads}
 use Rattle.ir_core.specs.NameRefusals.{least}
 use Rattle.ir_core.specs.Text.{Text}
@@ -30,7 +33,7 @@ taken : (m : Module) (r : Refusal) → IsRefused m r → HasNoRefusal m → ⊥
 taken m r (inl named) h = let none = ap least h.names in let f : ⊥ = cc in f
 taken m r (inr (none, shape)) h = h.shapes r shape.0
 
-not_checked : (text : List ℕ) (m : Module) (e : Or Refusal) → Reads text m → IsCheckRefusal m e → IsNotAccepted text e
+pub not_checked : (text : List ℕ) (m : Module) (e : Or Refusal) → Reads text m → IsCheckRefusal m e → IsNotAccepted text e
 not_checked text m (Refused r) reads h = (inr (inl (m, reads, h)), λ n accepts. taken m r h (subst HasNoRefusal (one_text text n m accepts.0 reads) accepts.1))
 not_checked text m Memory reads h = tt
 
@@ -38,14 +41,13 @@ not_built : (text : List ℕ) (m : Module) (e : Or Refusal) → Reads text m →
 not_built text m (Refused r) reads h call = (inr (inr (m, reads, h, call)), λ n accepts. let same = ap unbuilt (one_text text n m accepts.0 reads) in let none = accepts.2 in let f : ⊥ = cc in f)
 not_built text m Memory reads h call = absurd call
 
-pub check_failed : {T : Type 0} (text : List ℕ) (m : Module) (result : Result T (Or Refusal)) → Reads text m → IfErr result (λ e. IsCheckRefusal m e) → IfErr result (λ e. IsNotAccepted text e)
-check_failed text m (Ok c) reads h = tt
-check_failed text m (Err e) reads h = not_checked text m e reads h
-
--- a checked module is the one that was read
-pub is_checked : (m : Module) (result : Result Module (Or Refusal)) → IfOk result (λ c. c ≡ m) → IfOk result (λ c. HasNoRefusal m) → IfOk result (λ c. (c ≡ m) × HasNoRefusal m)
-is_checked m (Ok c) same none = (same, none)
-is_checked m (Err e) same none = tt
+-- the items of a slice of bytes are bytes
+pub are_bytes : (text : List ℕ) → ((at : ℕ) → Fits w8 (slice_index_or text at 0)) → every is_byte text ≡ true
+are_bytes [] fits = refl
+are_bytes (c ∷ cs) fits = by (is_byte c) (lt-ltb c 256 (let f = fits 0 in omega (arith, f))) (are_bytes cs (λ at. fits (suc at)))
+  where
+    by : (b : Bool) → b ≡ true → every is_byte cs ≡ true → (if b then every is_byte cs else false) ≡ true
+    by b e rest = ap (λ x. if x then every is_byte cs else false) e ∙ rest
 
 -- the module c that was checked is the module m that was read
 module _ (text : List ℕ) (m c : Module) (reads : Reads text m) (checked : (c ≡ m) × HasNoRefusal m) where

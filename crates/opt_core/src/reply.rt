@@ -1,22 +1,19 @@
 //! Replies: a status, and what is to be written on the output and on the notes.
 ghost use Rattle.std.specs.Prelude.{◌≡◌, ◌⊎◌, ◌+◌, ◌++◌, [], ◌<◌, ◌≤◌, codes, None, IfOk, IfErr};
-ghost use Rattle.ir_core.specs.Language.{Reads};
 ghost use Rattle.ir_core.specs.Text.{Text};
 ghost use Rattle.ir_core.specs.Tokens.{text_limit};
 ghost use Rattle.ir_core.specs.MachineOff.{machine_off, Remarks};
 ghost use Rattle.ir_core.specs.Notes.{refusal_text, remarks_text};
 ghost use Rattle.shapes.specs.Refusals.{unbuilt};
-ghost use Rattle.checked_modules.specs.Checked.{HasNoRefusal};
 ghost use Rattle.io_edge.specs.Outside.{Rose, Grows, GrowsByFront};
 ghost use Rattle.opt_core.specs.Answer.{Accepts, IsUnbuilt, IsNotAccepted, IsTextReply, IsNote, IsBadWords, IsWritten};
 
-use crate::bytes::are_bytes;
 use crate::optimiser::optimise;
 use crate::remarks::print_remarks;
 use checked_modules::Checked;
 use io_edge::{ReadFault, Sink, SinkFailed, write_all};
 use ir_check::check;
-use ir_core::{List, Module, Or, OutOfMemory, Refusal};
+use ir_core::{List, Or, OutOfMemory, Refusal};
 use ir_print::print_module;
 use ir_read::read_module;
 use ir_shapes::unbuilt;
@@ -98,16 +95,6 @@ fn built(m: Checked) -> Result<Checked, Or<Refusal>>
     }
 }
 
-/// The module that the text spells, where nothing is refused of it.
-fn checked(alloc: Global, text: &[u8], m: Module) -> Result<Checked, Or<Refusal>>
-    requires { Reads text.now m }
-    ensures passed { IfOk result (λ c. (c ≡ m) × HasNoRefusal m) }
-    ensures refused { IfErr result (λ e. IsNotAccepted text.now e) }
-{
-    are_bytes(text);
-    check(alloc, m)
-}
-
 /// The module that the text spells, where nothing is refused of it and each entry point that it calls can be run.
 ///
 /// # Errors
@@ -119,8 +106,8 @@ pub fn read_checked(alloc: Global, text: &[u8]) -> Result<Checked, Or<Refusal>>
     ensures refused { IfErr result (λ e. IsNotAccepted text.now e) }
 {
     let m = read_module(alloc, text)?;
-    let m = checked(alloc, text, m)?;
-    built(m)
+    let checked = check(alloc, m)?;
+    built(checked)
 }
 
 /// The reply to the text of a module: the optimised module with the remarks on it, or the refusal.
