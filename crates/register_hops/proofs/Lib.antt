@@ -1,0 +1,5 @@
+pub mod PlacedLaws
+pub mod SearchLaws
+pub mod NodeLaws
+pub mod MadeLaws
+mod HopLaws

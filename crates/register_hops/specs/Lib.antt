@@ -1,0 +1,5 @@
+pub mod Placed
+pub mod Nodes
+pub mod Hops
+pub mod Roots
+pub mod Numbered
