@@ -11,12 +11,12 @@ import sys
 from measure import kernel, least_time, write
 
 program, work = sys.argv[1:]
-OPENING = 3  # the steps of the main thread before the user code
 
-def storing(buffers, stores):
-    """A kernel that stores so often, to so many buffers in turn."""
+def storing(buffers):
+    """A kernel that stores without end in a loop of 10,000 stores, to so many buffers in turn."""
     params = ", ".join(f"ptr %p{n}" for n in range(buffers))
-    return kernel(params, "".join(f"  store i32 {n}, ptr %p{n % buffers}\n" for n in range(stores)))
+    stores = "".join(f"  store i32 {n}, ptr %p{n % buffers}\n" for n in range(10_000))
+    return kernel(params, f"  br label %head\nhead:\n{stores}  %t = icmp ne i32 %i, 0\n  br i1 %t, label %head, label %done\ndone:\n")
 
 def launch(threads, buffers):
     return f"kernel k\nthreads {threads}\nsteps 2000000\n" + "arg zeros 4\n" * buffers
@@ -26,14 +26,13 @@ def timed(module, start, schedule, want):
     texts = {"module.ll": module, "launch": start, "schedule": schedule}
     return least_time([program, "replay", *(write(work, name, text) for name, text in texts.items())], work, want)
 
-def each_step(name, buffers, stores):
-    """The time for a store, of which two counts are subtracted, so that reading and the start don't count."""
-    module, start = storing(buffers, stores), launch(1, buffers)
-    few, many = OPENING + stores // 10, OPENING + stores
+def each_step(name, module, start):
+    """The time for a step, of which two counts are subtracted, so that reading and the start don't count."""
+    few, many = 200_000, 2_000_000
     short, _ = timed(module, start, f"1 {few}\n", 10)
     long, peak = timed(module, start, f"1 {many}\n", 10)
     step = (long - short) / (many - few)
-    print(f"{name:44} {step * 1e9:8.1f} ns a step, {long:6.3f} s for {many} steps, peak {peak / 2**20:6.1f} MiB")
+    print(f"{name:44} {step * 1e9:8.1f} ns a step, {long - short:6.3f} s for {many - few} steps (bar 1 s for {many}), peak {peak / 2**20:6.1f} MiB")
     return step
 
 LOOP = """  br label %head
@@ -48,24 +47,14 @@ done:
 
 def looping(behind):
     """A kernel that stores in a loop without end, with so many instructions behind the loop."""
-    return kernel("ptr %p", LOOP + "".join(f"  store i32 {n}, ptr %p\n" for n in range(behind)))
+    return kernel("ptr %p", LOOP + "  store i32 1, ptr %p\n" * behind)
 
-def each_loop_step(name, behind):
-    """The time for a step in a loop."""
-    module, start = looping(behind), launch(1, 1)
-    few, many = 200_000, 2_000_000
-    short, _ = timed(module, start, f"1 {few}\n", 10)
-    long, peak = timed(module, start, f"1 {many}\n", 10)
-    step = (long - short) / (many - few)
-    print(f"{name:44} {step * 1e9:8.1f} ns a step, {long - short:6.3f} s for {many - few} steps (bar 1 s for {many}), peak {peak / 2**20:6.1f} MiB")
-    return step
-
-few = each_step("stores to 10 buffers", 10, 100_000)
-many = each_step("stores to 10,000 buffers", 10_000, 100_000)
+few = each_step("stores to 10 buffers", storing(10), launch(1, 10))
+many = each_step("stores to 10,000 buffers", storing(10_000), launch(1, 10_000))
 print(f"{'ratio, 10,000 buffers to 10 (bar 2)':44} {many / few:8.2f}")
 
-short = each_loop_step("a loop in a module of 40 instructions", 28)
-long = each_loop_step("the loop in a module of 170,000 instructions", 170_000)
+short = each_step("a loop in a module of 40 instructions", looping(28), launch(1, 1))
+long = each_step("the loop in a module of 170,000 instructions", looping(170_000), launch(1, 1))
 print(f"{'ratio, the long module to the short (bar 1.5)':44} {long / short:8.2f}")
 
 module, start = looping(0), launch(64, 1)
