@@ -20,8 +20,7 @@ use Rattle.call_graph.specs.Targets.{as_list, forked}
 use Rattle.call_graph.proofs.ListLaws.{Among, last_is, none_among, within_joined}
 use Rattle.call_graph.proofs.SideLaws.{forks_it, is_forked}
 use Rattle.call_paths.specs.Known.{IsRowOf}
-use Rattle.call_paths.specs.Rows.{CallsOrForks}
-use Rattle.call_paths.specs.Runs.{Runs}
+use Rattle.call_paths.specs.Runs.{CallsOrForks, Runs}
 use Rattle.call_paths.proofs.RowLaws.{row_as}
 
 -- ---- the forks of the functions before a place

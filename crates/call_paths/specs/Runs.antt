@@ -22,10 +22,14 @@ HasFork m at = (f : Function) × (slice_get m.functions at ≡ Some f) × (list_
 abbrev pub ReachesRegion : Module → ℕ → Type 0
 ReachesRegion m at = (to : ℕ) × Reaches m at to × HasFork m to
 
+-- the function at one place calls that at the other, or has a fork of it
+abbrev pub CallsOrForks : Module → ℕ → ℕ → Type 0
+CallsOrForks m from to = Calls m from to ⊎ Forks m from to
+
 -- the kernel runs the function: call paths lead to it, each after the first from a region function whose fork stands in the last function
 -- of the one before
 abbrev pub Runs : Module → ℕ → ℕ → Type 0
-Runs m kernel at = IsKernelAt m kernel × Leads (λ from to. Calls m from to ⊎ Forks m from to) kernel at
+Runs m kernel at = IsKernelAt m kernel × Leads (CallsOrForks m) kernel at
 
 -- the side or sides on which the function stands
 abbrev pub StandsOn : Module → ℕ → Side → Type 0

@@ -6,8 +6,7 @@ ghost use Rattle.shapes.specs.Insts.{insts_seen};
 ghost use Rattle.call_graph.specs.Graphs.{IsGraphOf, Adds};
 ghost use Rattle.call_graph.specs.Targets as targets;
 ghost use Rattle.call_paths.specs.Known.{IsRowOf, AreRowsOf};
-ghost use Rattle.call_paths.specs.Rows.{CallsOrForks};
-ghost use Rattle.call_paths.specs.Runs.{Runs};
+ghost use Rattle.call_paths.specs.Runs.{CallsOrForks, Runs};
 
 use crate::rows::row_from;
 use call_graph::forked;
