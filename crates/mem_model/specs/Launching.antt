@@ -18,7 +18,7 @@ use Rattle.mem_model.specs.declared.memory.Byte.TheVariants.{Num}
 use Rattle.mem_model.specs.declared.memory.Word.{Word}
 use Rattle.mem_model.specs.declared.memory.Word.TheVariants.{Int, Ptr as Address}
 use Rattle.mem_model.specs.Memory.{Memory, no_blocks, with_block, block_limit, shown_block}
-use Rattle.mem_model.specs.Thread.{Registers, bound, Answers, ThreadState}
+use Rattle.mem_model.specs.Thread.{Registers, bound, Answers, Begins, Frame, ThreadState}
 use Rattle.ir_core.specs.Places.{function_place}
 use Rattle.mem_model.specs.Do.{Common}
 use Rattle.mem_model.specs.Globals.{with_globals}
@@ -91,18 +91,26 @@ params_of (Some f) = f.params
 abbrev pub first_registers : Module → ℕ → Launch → Registers
 first_registers m k l = bound (params_of (slice_get m.functions k)) (arg_words 0 l.args)
 
--- a thread with this number at the start of the kernel; where there is none, it has no call
-abbrev pub thread_at : Module → Launch → ℕ → Answers → Option ℕ → ThreadState
-thread_at m l own answers None = record { own = own; counter = 0; frames = []; answers = answers }
-thread_at m l own answers (Some k) = record {
-  own = own;
-  counter = 0;
-  frames = record { code = record { at = record { function = k; block = 0; index = 0 }; registers = first_registers m k l; back = None }; blocks = [] } ∷ [];
-  answers = answers;
-}
+-- how a thread takes part in a run: its number, how many threads a region has, and whether it enters regions itself
+pub record Role : Type 0 where
+  pub own : ℕ
+  pub size : ℕ
+  pub enters : Bool
 
-abbrev pub first_thread : Module → Launch → ℕ → Answers → ThreadState
-first_thread m l own answers = thread_at m l own answers (function_place m l.kernel)
+-- a thread in no call
+abbrev pub idle_thread : Role → Answers → ThreadState
+idle_thread r answers = record { own = r.own; size = r.size; enters = r.enters; counter = 0; frames = []; answers = answers }
+
+abbrev pub kernel_frame : Module → Launch → ℕ → Frame
+kernel_frame m l k = record { code = record { at = record { function = k; block = 0; index = 0 }; phase = Begins; registers = first_registers m k l; back = None }; blocks = [] }
+
+-- a thread at the start of the kernel; where there is none, it has no call
+abbrev pub thread_at : Module → Launch → Role → Answers → Option ℕ → ThreadState
+thread_at m l r answers None = idle_thread r answers
+thread_at m l r answers (Some k) = record (idle_thread r answers) { frames = kernel_frame m l k ∷ [] }
+
+abbrev pub first_thread : Module → Launch → Role → Answers → ThreadState
+first_thread m l r answers = thread_at m l r answers (function_place m l.kernel)
 
 abbrev pub with_buffer : ℕ → Arg → Memory → Memory
 with_buffer i (Buffer bytes) m = with_block m (ArgBlock i) false (map Num bytes)
@@ -116,9 +124,9 @@ with_buffers i (a ∷ as_) m = with_buffers (i + 1) as_ (with_buffer i a m)
 abbrev pub first_memory : Module → Launch → Memory
 first_memory m l = with_globals m 0 m.globals (with_buffers 0 l.args no_blocks)
 
--- nothing is printed at the start
+-- nothing is printed at the start, and no heap block made
 abbrev pub first_common : Memory → Common
-first_common m = record { memory = m; prints = [] }
+first_common m = record { memory = m; heaps = 0; prints = [] }
 
 -- ---- what is seen
 

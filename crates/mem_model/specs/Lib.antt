@@ -5,6 +5,11 @@ pub mod Memory
 pub mod Eval
 pub mod Thread
 pub mod Values
+pub mod Steps
+pub mod Regions
+pub mod Schedules
+pub mod Entries
+pub mod Work
 pub mod Next
 pub mod Update
 pub mod Do

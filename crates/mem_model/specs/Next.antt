@@ -1,8 +1,6 @@
 -- What a thread does next: one function for every meaning, which differ in what the thread's state answers alone
 -- (LLVM Language Reference, "Instruction Reference").
 use Rattle.std.specs.Prelude.{ℕ, ◌+◌, List, [], ◌∷◌, length, replicate, slice_get, Option, Some, None, Result, Ok, Err, Bool, false, ◌==◌, nat_le, pos, if◌then◌else◌}
-use Rattle.std.specs.Str.{bytes_eq}
-use Rattle.ir_core.specs.declared.types.Ty.{Ty}
 use Rattle.ir_core.specs.declared.instructions.Value.{Value}
 use Rattle.ir_core.specs.declared.instructions.Value.TheVariants.{Int as IntValue, Global as GlobalValue}
 use Rattle.ir_core.specs.declared.instructions.Typed.{Typed}
@@ -15,88 +13,28 @@ use Rattle.ir_core.specs.declared.module.Module.{Module}
 use Rattle.ir_core.specs.declared.module.Function.{Function}
 use Rattle.ir_core.specs.declared.module.Block.{Block}
 use Rattle.ir_core.specs.declared.module.Param.{Param}
-use Rattle.ir_core.specs.EntryPoints.{target_init, target_deinit}
-use Rattle.ir_core.specs.FirstForm.{is_scalar}
+use Rattle.ir_core.specs.declared.rtl.Rtl.{Rtl}
 use Rattle.ir_core.specs.Layout.{Size, Offset}
 use Rattle.mem_model.specs.declared.memory.BlockName.TheVariants.{Stack}
-use Rattle.mem_model.specs.declared.memory.Ptr.{Ptr}
 use Rattle.mem_model.specs.declared.memory.Ptr.TheVariants.{At}
 use Rattle.mem_model.specs.declared.memory.Byte.TheVariants.{Num}
 use Rattle.mem_model.specs.declared.memory.Word.{Word}
 use Rattle.mem_model.specs.declared.memory.Word.TheVariants.{Int, Ptr as Address}
 use Rattle.mem_model.specs.declared.memory.Cell.{Cell}
 use Rattle.mem_model.specs.declared.memory.Cell.TheVariants.{Int as IntCell}
+use Rattle.mem_model.specs.declared.step.Barrier.TheVariants.{Team, Join}
 use Rattle.mem_model.specs.declared.step.Trap.{Trap}
 use Rattle.mem_model.specs.declared.step.Trap.TheVariants.{Unreachable, TooLarge}
-use Rattle.mem_model.specs.Memory.{Given, block_limit}
+use Rattle.mem_model.specs.Memory.{block_limit}
 use Rattle.mem_model.specs.Eval.{Eval, compared}
-use Rattle.mem_model.specs.Thread.{Name, Place, Registers, Code, Frame, ThreadState, Where, InStack, Elsewhere, where_is, given_of, assigned, bound, find_in, put_in, load_own, store_own}
+use Rattle.mem_model.specs.Thread.{Name, Place, Phase, Begins, Published, Woken, Gathered, InRegion, HasLeft, Loops, HasWorked, Registers, Frame, ThreadState, Where, InStack, Elsewhere, where_is, given_of, assigned, bound, find_in, put_in, load_own, store_own, outside_region}
 use Rattle.ir_core.specs.Places.{inst_at, labels, label_at, place_in, function_place, PhiNode, phis_at, edge_from}
 use Rattle.mem_model.specs.Values.{cell_of, width_of, value_word, operand, and_then, operand_words, converted, path_of, moved, updated}
-
--- ---- events: what a thread does to what it shares with others
-
--- an action on shared memory; an atomic access is an action as a plain one is
-pub data Action : Type 0 where
-  Loads : (at : Ptr) (cell : Cell) → Action
-  Stores : (at : Ptr) (cell : Cell) (given : Given) → Action
-  Updates : (at : Ptr) (width : ℕ) (op : RmwOp) (n : ℕ) → Action
-
--- an action, a call of __kmpc_target_deinit, or the end of the thread
-pub data Event : Type 0 where
-  Does : Action → Event
-  Deinit : Event
-  Leaves : Event
-
--- a step of its own, a pending event, the end of the thread, or a trap
-pub data NextStep : Type 0 where
-  Local : ThreadState → NextStep
-  Pending : Event → NextStep
-  Done : NextStep
-  Trapped : Trap → NextStep
-
--- goes on with what was found, or traps
-abbrev pub with_found : {A : Type 0} → Result A Trap → (A → NextStep) → NextStep
-with_found (Err e) go = Trapped e
-with_found (Ok x) go = go x
-
--- an operand of another kind, and an operation without a meaning, are in no checked module
-abbrev pub with_number : Word → (ℕ → NextStep) → NextStep
-with_number (Int n) go = go n
-with_number (Address p) go = Trapped Unreachable
-
-abbrev pub with_pointer : Word → (Ptr → NextStep) → NextStep
-with_pointer (Int n) go = Trapped Unreachable
-with_pointer (Address p) go = go p
-
-abbrev pub with_result : {A : Type 0} → Option A → (A → NextStep) → NextStep
-with_result None go = Trapped Unreachable
-with_result (Some n) go = go n
-
--- no checked module loads another type or converts to one
-abbrev pub with_scalar : Ty → NextStep → NextStep
-with_scalar ty go = if is_scalar ty then go else Trapped Unreachable
-
--- ---- one step
-
-abbrev pub next_place : Place → Place
-next_place p = record p { index = p.index + 1 }
-
--- behind the instruction, with its result or with none
-abbrev pub code_on : Code → Option Name → Word → Code
-code_on c x word = record c { at = next_place c.at; registers = assigned c.registers x word }
-
-abbrev pub code_past : Code → Code
-code_past c = record c { at = next_place c.at }
-
-abbrev pub with_frames : ThreadState → List Frame → ThreadState
-with_frames t fs = record t { frames = fs }
-
-abbrev pub goes_on : ThreadState → Frame → List Frame → Option Name → Word → ThreadState
-goes_on t f rest x word = with_frames t (record f { code = code_on f.code x word } ∷ rest)
-
-abbrev pub goes_past : ThreadState → Frame → List Frame → ThreadState
-goes_past t f rest = with_frames t (record f { code = code_past f.code } ∷ rest)
+pub use Rattle.mem_model.specs.Steps.{Action, Loads, Stores, Updates, Prints, Makes, Releases, Event, Does, Deinit, Forks, Arrives, AsksForWork, Leaves, NextStep, Local, Pending, Done, Trapped, with_found, with_number, with_pointer, with_result, with_scalar, next_place, code_on, code_past, with_frames, goes_on, goes_past, in_phase, goes_in, result_of, resumed_frames, resumed, arrived_frames, arrived, line_of, frames_line, line_at}
+use Rattle.mem_model.specs.Regions.{Fork, fork_of, words_operand, captured, words_formed, in_region}
+pub use Rattle.mem_model.specs.Entries.{entry_of}
+use Rattle.mem_model.specs.Entries.{next_entry}
+use Rattle.mem_model.specs.Work.{next_loop}
 
 -- ---- branches: all phis of the target are assigned at once, in the same step
 
@@ -158,8 +96,7 @@ allocates t f rest x size =
 -- ---- calls and returns
 
 pub data Callee : Type 0 where
-  CallsInit : Callee
-  CallsDeinit : Callee
+  CallsEntry : Rtl → Callee
   CallsFunction : ℕ → List Param → Callee
   CallsOther : Callee
 
@@ -175,25 +112,37 @@ abbrev pub defined_at : Module → Option ℕ → Callee
 defined_at m None = CallsOther
 defined_at m (Some k) = defined_as k (slice_get m.functions k)
 
+abbrev pub entry_or : Option Rtl → Callee → Callee
+entry_or None other = other
+entry_or (Some r) other = CallsEntry r
+
 abbrev pub callee_of : Module → Value → Callee
-callee_of m (GlobalValue x) = if bytes_eq x target_init then CallsInit else if bytes_eq x target_deinit then CallsDeinit else defined_at m (function_place m x)
+callee_of m (GlobalValue x) = entry_or (entry_of x) (defined_at m (function_place m x))
 callee_of m _ = CallsOther
 
 -- a call that begins at its function's first block, and gives its result to the caller's register
 abbrev pub called : ℕ → List Param → List Word → Option Name → Frame
-called k params words x = record { code = record { at = record { function = k; block = 0; index = 0 }; registers = bound params words; back = x }; blocks = [] }
+called k params words x = record { code = record { at = record { function = k; block = 0; index = 0 }; phase = Begins; registers = bound params words; back = x }; blocks = [] }
 
 abbrev pub next_call : Module → ThreadState → Frame → List Frame → Option Name → List Typed → Callee → NextStep
-next_call m t f rest x operands CallsInit = Local (goes_on t f rest x (Int t.answers.init))
-next_call m t f rest x operands CallsDeinit = Pending Deinit
+next_call m t f rest x operands (CallsEntry r) = next_entry m t f rest x operands r
 next_call m t f rest x operands (CallsFunction k params) = with_found (operand_words m f.code.registers operands) (λ words. Local (with_frames t (called k params words x ∷ f ∷ rest)))
 next_call m t f rest x operands CallsOther = Trapped Unreachable
+
+abbrev pub goes_back : ThreadState → Frame → List Frame → Option Name → Option Word → ThreadState
+goes_back t f rest back None = goes_past t f rest
+goes_back t f rest back (Some word) = goes_on t f rest back word
+
+-- a fork of an SPMD kernel and the runtime's own loop are not done with the return; every other call is
+abbrev pub back_in : Phase → ThreadState → Frame → List Frame → Option Name → Option Word → ThreadState
+back_in InRegion t f rest back word = record (goes_in t f rest HasLeft) { answers = outside_region t }
+back_in (Loops point) t f rest back word = goes_in t f rest (Loops HasWorked)
+back_in _ t f rest back word = goes_back t f rest back word
 
 -- the caller goes on with the result or without one; the return from a thread's first call ends the thread
 abbrev pub returns : ThreadState → List Frame → Option Name → Option Word → NextStep
 returns t [] back word = Pending Leaves
-returns t (f ∷ rest) back None = Local (goes_past t f rest)
-returns t (f ∷ rest) back (Some word) = Local (goes_on t f rest back word)
+returns t (f ∷ rest) back word = Local (back_in f.code.phase t f rest back word)
 
 -- ---- the instructions
 
@@ -237,39 +186,38 @@ abbrev pub next_inst : Module → ThreadState → Frame → List Frame → Optio
 next_inst m t f rest None = Trapped Unreachable
 next_inst m t f rest (Some i) = next_kind m t f rest i.result i.kind
 
+-- ---- forks of SPMD kernels
+
+-- the words are read, and the region function begins
+abbrev pub enters_region : Module → ThreadState → Frame → List Frame → List Word → Fork → NextStep
+enters_region m t f rest words fork =
+    with_found (captured (f ∷ rest) (words_operand words) fork.count) (λ ps. with_found (words_formed m fork.wrapper ps) (λ ws. Local (in_region m t (in_phase InRegion f ∷ rest) fork.function ws)))
+
+abbrev pub enters_kind : Module → ThreadState → Frame → List Frame → Kind → NextStep
+enters_kind m t f rest (Call tail_word ret callee operands) =
+    with_found (operand_words m f.code.registers operands) (λ words. with_result (fork_of m operands) (enters_region m t f rest words))
+enters_kind m t f rest _ = Trapped Unreachable
+
+abbrev pub enters_at : Module → ThreadState → Frame → List Frame → Option Inst → NextStep
+enters_at m t f rest None = Trapped Unreachable
+enters_at m t f rest (Some i) = enters_kind m t f rest i.kind
+
+-- ---- one step
+
+-- the main thread of a generic kernel wakes the workers for a fork and waits for them; a thread of an SPMD kernel enters the region
+abbrev pub next_in : Module → ThreadState → Frame → List Frame → Option Inst → Phase → NextStep
+next_in m t f rest i Begins = next_inst m t f rest i
+next_in m t f rest i Published = Pending (Arrives Team (Some Woken))
+next_in m t f rest i Woken = Pending (Arrives Team None)
+next_in m t f rest i Gathered = enters_at m t f rest i
+next_in m t f rest i InRegion = Trapped Unreachable
+next_in m t f rest i HasLeft = Pending (Arrives Join None)
+next_in m t f rest i (Loops point) = next_loop m t f rest (result_of i) point
+
 abbrev pub next_frames : Module → ThreadState → List Frame → NextStep
 next_frames m t [] = Done
-next_frames m t (f ∷ rest) = next_inst m t f rest (inst_at m f.code.at)
+next_frames m t (f ∷ rest) = next_in m t f rest (inst_at m f.code.at) f.code.phase
 
 -- what a thread does next
 abbrev pub Next : Module → ThreadState → NextStep
 Next m t = next_frames m t t.frames
-
--- ---- behind an event
-
-abbrev pub result_of : Option Inst → Option Name
-result_of None = None
-result_of (Some i) = i.result
-
--- goes on behind the event with the word that answers it, where one does
-abbrev pub resumed_frames : Module → ThreadState → List Frame → Option Word → ThreadState
-resumed_frames m t [] answer = t
-resumed_frames m t (f ∷ rest) None = goes_past t f rest
-resumed_frames m t (f ∷ rest) (Some word) = goes_on t f rest (result_of (inst_at m f.code.at)) word
-
-abbrev pub resumed : Module → ThreadState → Option Word → ThreadState
-resumed m t answer = resumed_frames m t t.frames answer
-
--- ---- where a thread stands
-
-abbrev pub line_of : Option Inst → ℕ
-line_of None = 0
-line_of (Some i) = i.line
-
-abbrev pub frames_line : Module → List Frame → ℕ
-frames_line m [] = 0
-frames_line m (f ∷ rest) = line_of (inst_at m f.code.at)
-
--- the line of the instruction whose step is next
-abbrev pub line_at : Module → ThreadState → ℕ
-line_at m t = frames_line m t.frames

@@ -21,9 +21,38 @@ use Rattle.mem_model.specs.Words.{cell_size, word_bytes, word_in}
 abbrev pub Registers : Type 0
 Registers = Name → Option Word
 
--- where a call stands, its registers, and the caller's register that takes its result
+-- where a worker stands in the loop that the runtime itself runs in __kmpc_target_init
+pub data LoopPoint : Type 0 where
+  -- it waits to be woken, and asks for the published work
+  Sleeps : LoopPoint
+  Asks : LoopPoint
+  -- it was given the place of a wrapper or null, and makes so many steps before the one that acts on it
+  Considers : ℕ → Option ℕ → LoopPoint
+  -- the wrapper runs, it has returned, the region is over, and the worker waits for the others before the next turn
+  Works : LoopPoint
+  HasWorked : LoopPoint
+  EndsRegion : LoopPoint
+  HasEnded : LoopPoint
+  Rests : LoopPoint
+  HasRested : LoopPoint
+
+-- how far a call has come in the instruction at which it stands
+pub data Phase : Type 0 where
+  Begins : Phase
+  -- a fork of a generic kernel: the work is published, the workers are awake
+  Published : Phase
+  Woken : Phase
+  -- a fork of an SPMD kernel: all threads have come to it, the region function runs, it has returned
+  Gathered : Phase
+  InRegion : Phase
+  HasLeft : Phase
+  -- the runtime's own loop
+  Loops : LoopPoint → Phase
+
+-- where a call stands and how far it has come there, its registers, and the caller's register that takes its result
 pub record Code : Type 0 where
   pub at : Place
+  pub phase : Phase
   pub registers : Registers
   pub back : Option Name
 
@@ -36,7 +65,7 @@ pub record Frame : Type 0 where
   pub code : Code
   pub blocks : List (Spot × List Byte)
 
--- what the entry points answer to a thread: to __kmpc_target_init, its number and the number of threads in a region, the level, and the mode bit
+-- what the entry points answer to a thread now: to __kmpc_target_init, its number and the number of threads, the level, and the mode bit
 pub record Answers : Type 0 where
   pub init : ℕ
   pub number : ℕ
@@ -44,12 +73,22 @@ pub record Answers : Type 0 where
   pub level : ℕ
   pub spmd : ℕ
 
--- its number in the names of its stack blocks, how many of them it has made, and its calls, the innermost first
+-- its number, how many threads a region has, whether it enters the regions of its forks itself, as each thread of an SPMD kernel does, how
+-- many blocks of its stack it has made, and its calls, the innermost first
 pub record ThreadState : Type 0 where
   pub own : ℕ
+  pub size : ℕ
+  pub enters : Bool
   pub counter : ℕ
   pub frames : List Frame
   pub answers : Answers
+
+-- what it is answered in a region, and outside of it
+abbrev pub inside_region : ThreadState → Answers
+inside_region t = record t.answers { number = t.own; count = t.size; level = 1 }
+
+abbrev pub outside_region : ThreadState → Answers
+outside_region t = record t.answers { number = 0; count = 1; level = 0 }
 
 -- ---- registers
 

@@ -23,5 +23,5 @@ pub use crossing::{accesses_cross, memory_crosses, runs_cross};
 pub use launch::{Arg, Launch, Shown};
 pub use memory::{BlockName, Byte, Cell, Ptr, Word};
 pub use shared::Memory;
-pub use step::{End, Moved, NotReady, Trap};
+pub use step::{Barrier, End, Moved, NotReady, Trap};
 pub use update::updated;

@@ -24,6 +24,19 @@ pub enum Trap {
     Unassigned,
 }
 
+/// A kind of barrier. Unlike kinds never open each other.
+#[derive(Clone, Copy)]
+pub enum Barrier {
+    /// `__kmpc_barrier` in a region: it opens when all region threads wait at it.
+    Explicit,
+    /// At the ends of a fork: it opens when every machine thread that has not ended waits at it.
+    Team,
+    /// At the end of a fork in SPMD mode: it opens when all machine threads wait at it.
+    Join,
+    /// Round a guarded instruction in SPMD mode: likewise.
+    Guard,
+}
+
 /// How a state stands.
 #[derive(Clone, Copy)]
 pub enum End {

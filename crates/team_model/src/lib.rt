@@ -4,6 +4,7 @@
 //! `specs/Team.antt` has the definitions.
 #![tactic(auto)]
 
+pub use mem_model::Barrier;
 use mem_model::Trap;
 
 /// Steps of one machine thread in a row.
@@ -11,19 +12,6 @@ use mem_model::Trap;
 pub struct Pair {
     pub thread: u32,
     pub count: u32,
-}
-
-/// A kind of barrier. Unlike kinds never open each other.
-#[derive(Clone, Copy)]
-pub enum Barrier {
-    /// `__kmpc_barrier` in a region: it opens when all region threads wait at it.
-    Explicit,
-    /// At the ends of a fork: it opens when every machine thread that has not ended waits at it.
-    Team,
-    /// At the end of a fork in SPMD mode.
-    Join,
-    /// Round a guarded instruction in SPMD mode.
-    Guard,
 }
 
 /// How a machine thread stands.
