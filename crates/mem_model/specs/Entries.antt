@@ -20,7 +20,9 @@ use Rattle.mem_model.specs.declared.step.Trap.{Trap}
 use Rattle.mem_model.specs.declared.step.Trap.TheVariants.{NoBlock, NotStack, Division, Unreachable}
 use Rattle.mem_model.specs.Eval.{signed, wrapped}
 use Rattle.mem_model.specs.Values.{and_then, operand_words}
-use Rattle.mem_model.specs.Thread.{Name, Gathered, Loops, Sleeps, Answers, Frame, ThreadState, Where, InStack, Elsewhere, where_is, find_in, put_in, load_own, store_own, outside_region}
+use Rattle.mem_model.specs.declared.phase.LoopPoint.TheVariants.{Sleeps}
+use Rattle.mem_model.specs.declared.phase.Phase.TheVariants.{Gathered, Loops}
+use Rattle.mem_model.specs.Thread.{Name, Answers, Frame, ThreadState, Where, InStack, Elsewhere, where_is, find_in, put_in, load_own, store_own, outside_region}
 use Rattle.mem_model.specs.Steps.{Prints, Makes, Releases, Does, Deinit, Forks, Arrives, AsksForWork, NextStep, Local, Pending, Trapped, with_found, with_result, code_past, with_frames, goes_on, goes_past, goes_in}
 use Rattle.mem_model.specs.Regions.{Fork, fork_of, words_operand, captured}
 use Rattle.mem_model.specs.Schedules.{Turns, turns}

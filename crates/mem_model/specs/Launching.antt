@@ -18,7 +18,8 @@ use Rattle.mem_model.specs.declared.memory.Byte.TheVariants.{Num}
 use Rattle.mem_model.specs.declared.memory.Word.{Word}
 use Rattle.mem_model.specs.declared.memory.Word.TheVariants.{Int, Ptr as Address}
 use Rattle.mem_model.specs.Memory.{Memory, no_blocks, with_block, block_limit, shown_block}
-use Rattle.mem_model.specs.Thread.{Registers, bound, Answers, Begins, Frame, ThreadState}
+use Rattle.mem_model.specs.declared.phase.Phase.TheVariants.{Begins}
+use Rattle.mem_model.specs.Thread.{Registers, bound, Answers, Frame, ThreadState}
 use Rattle.ir_core.specs.Places.{function_place}
 use Rattle.mem_model.specs.Do.{Common}
 use Rattle.mem_model.specs.Globals.{with_globals}

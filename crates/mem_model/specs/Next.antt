@@ -27,7 +27,10 @@ use Rattle.mem_model.specs.declared.step.Trap.{Trap}
 use Rattle.mem_model.specs.declared.step.Trap.TheVariants.{Unreachable, TooLarge}
 use Rattle.mem_model.specs.Memory.{block_limit}
 use Rattle.mem_model.specs.Eval.{Eval, compared}
-use Rattle.mem_model.specs.Thread.{Name, Place, Phase, Begins, Published, Woken, Gathered, InRegion, HasLeft, Loops, HasWorked, Registers, Frame, ThreadState, Where, InStack, Elsewhere, where_is, given_of, assigned, bound, find_in, put_in, load_own, store_own, outside_region}
+use Rattle.mem_model.specs.declared.phase.Phase.{Phase}
+use Rattle.mem_model.specs.declared.phase.LoopPoint.TheVariants.{HasWorked}
+use Rattle.mem_model.specs.declared.phase.Phase.TheVariants.{Begins, Published, Woken, Gathered, InRegion, HasLeft, Loops}
+use Rattle.mem_model.specs.Thread.{Name, Place, Registers, Frame, ThreadState, Where, InStack, Elsewhere, where_is, given_of, assigned, bound, find_in, put_in, load_own, store_own, outside_region}
 use Rattle.ir_core.specs.Places.{inst_at, labels, label_at, place_in, function_place, PhiNode, phis_at, edge_from}
 use Rattle.mem_model.specs.Values.{cell_of, width_of, value_word, operand, and_then, operand_words, converted, path_of, moved, updated}
 pub use Rattle.mem_model.specs.Steps.{Action, Loads, Stores, Updates, Prints, Makes, Releases, Event, Does, Deinit, Forks, Arrives, AsksForWork, Leaves, NextStep, Local, Pending, Done, Trapped, with_found, with_number, with_pointer, with_result, with_scalar, next_place, code_on, code_past, with_frames, goes_on, goes_past, in_phase, goes_in, result_of, resumed_frames, resumed, arrived_frames, arrived, line_of, frames_line, line_at}

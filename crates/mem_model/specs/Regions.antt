@@ -19,7 +19,8 @@ use Rattle.mem_model.specs.declared.step.Trap.{Trap}
 use Rattle.mem_model.specs.declared.step.Trap.TheVariants.{NotStack, StackLeak, NotNumber, Unreachable}
 use Rattle.mem_model.specs.Words.{number_bytes}
 use Rattle.mem_model.specs.Values.{and_then}
-use Rattle.mem_model.specs.Thread.{Begins, Frame, ThreadState, Where, InStack, Elsewhere, where_is, bound, find_in, load_own, inside_region}
+use Rattle.mem_model.specs.declared.phase.Phase.TheVariants.{Begins}
+use Rattle.mem_model.specs.Thread.{Frame, ThreadState, Where, InStack, Elsewhere, where_is, bound, find_in, load_own, inside_region}
 
 -- ---- what a fork names
 

@@ -14,7 +14,9 @@ use Rattle.mem_model.specs.declared.step.Barrier.{Barrier}
 use Rattle.mem_model.specs.declared.step.Trap.{Trap}
 use Rattle.mem_model.specs.declared.step.Trap.TheVariants.{Unreachable}
 use Rattle.mem_model.specs.Memory.{Given}
-use Rattle.mem_model.specs.Thread.{Name, Place, Begins, Phase, Code, Frame, ThreadState, assigned}
+use Rattle.mem_model.specs.declared.phase.Phase.{Phase}
+use Rattle.mem_model.specs.declared.phase.Phase.TheVariants.{Begins}
+use Rattle.mem_model.specs.Thread.{Name, Place, Code, Frame, ThreadState, assigned}
 
 -- ---- events: what a thread does to what it shares with others
 

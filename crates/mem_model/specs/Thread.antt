@@ -10,6 +10,7 @@ use Rattle.mem_model.specs.declared.memory.Byte.{Byte}
 use Rattle.mem_model.specs.declared.memory.Word.{Word}
 use Rattle.mem_model.specs.declared.memory.Word.TheVariants.{Int, Ptr as Address}
 use Rattle.mem_model.specs.declared.memory.Cell.{Cell}
+use Rattle.mem_model.specs.declared.phase.Phase.{Phase}
 use Rattle.mem_model.specs.declared.step.Trap.{Trap}
 use Rattle.mem_model.specs.declared.step.Trap.TheVariants.{NoBlock}
 use Rattle.mem_model.specs.Memory.{Given, Shares, Leaks, inside}
@@ -20,34 +21,6 @@ use Rattle.mem_model.specs.Words.{cell_size, word_bytes, word_in}
 -- the registers that are assigned
 abbrev pub Registers : Type 0
 Registers = Name → Option Word
-
--- where a worker stands in the loop that the runtime itself runs in __kmpc_target_init
-pub data LoopPoint : Type 0 where
-  -- it waits to be woken, and asks for the published work
-  Sleeps : LoopPoint
-  Asks : LoopPoint
-  -- it was given the place of a wrapper or null, and makes so many steps before the one that acts on it
-  Considers : ℕ → Option ℕ → LoopPoint
-  -- the wrapper runs, it has returned, the region is over, and the worker waits for the others before the next turn
-  Works : LoopPoint
-  HasWorked : LoopPoint
-  EndsRegion : LoopPoint
-  HasEnded : LoopPoint
-  Rests : LoopPoint
-  HasRested : LoopPoint
-
--- how far a call has come in the instruction at which it stands
-pub data Phase : Type 0 where
-  Begins : Phase
-  -- a fork of a generic kernel: the work is published, the workers are awake
-  Published : Phase
-  Woken : Phase
-  -- a fork of an SPMD kernel: all threads have come to it, the region function runs, it has returned
-  Gathered : Phase
-  InRegion : Phase
-  HasLeft : Phase
-  -- the runtime's own loop
-  Loops : LoopPoint → Phase
 
 -- where a call stands and how far it has come there, its registers, and the caller's register that takes its result
 pub record Code : Type 0 where

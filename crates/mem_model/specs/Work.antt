@@ -12,7 +12,11 @@ use Rattle.mem_model.specs.declared.step.Barrier.TheVariants.{Team}
 use Rattle.mem_model.specs.declared.step.Trap.{Trap}
 use Rattle.mem_model.specs.declared.step.Trap.TheVariants.{Unreachable}
 use Rattle.mem_model.specs.Values.{and_then, operand_words}
-use Rattle.mem_model.specs.Thread.{Name, LoopPoint, Sleeps, Asks, Considers, Works, HasWorked, EndsRegion, HasEnded, Rests, HasRested, Phase, Begins, Loops, Answers, Frame, ThreadState, where_is, bound, inside_region, outside_region}
+use Rattle.mem_model.specs.declared.phase.LoopPoint.{LoopPoint}
+use Rattle.mem_model.specs.declared.phase.Phase.{Phase}
+use Rattle.mem_model.specs.declared.phase.LoopPoint.TheVariants.{Sleeps, Asks, Considers, Works, HasWorked, EndsRegion, HasEnded, Rests, HasRested}
+use Rattle.mem_model.specs.declared.phase.Phase.TheVariants.{Begins, Loops}
+use Rattle.mem_model.specs.Thread.{Name, Answers, Frame, ThreadState, where_is, bound, inside_region, outside_region}
 use Rattle.mem_model.specs.Steps.{Arrives, AsksForWork, NextStep, Local, Pending, Trapped, code_on, with_frames, goes_on, in_phase, goes_in}
 use Rattle.mem_model.specs.Regions.{params_at}
 use Rattle.mem_model.specs.Entries.{put_own, truth_word, work_word}

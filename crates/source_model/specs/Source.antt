@@ -11,7 +11,8 @@ use Rattle.mem_model.specs.declared.step.End.{End}
 use Rattle.mem_model.specs.declared.step.End.TheVariants.{Running, Ended, Stuck, Trapped as TrappedEnd}
 use Rattle.mem_model.specs.declared.step.Trap.{Trap}
 use Rattle.mem_model.specs.declared.step.Trap.TheVariants.{Unreachable}
-use Rattle.mem_model.specs.Thread.{Phase, Answers, Frame, ThreadState}
+use Rattle.mem_model.specs.declared.phase.Phase.{Phase}
+use Rattle.mem_model.specs.Thread.{Answers, Frame, ThreadState}
 use Rattle.mem_model.specs.Regions.{words_formed, in_region}
 use Rattle.mem_model.specs.Next.{Event, Does, Deinit, Forks, Arrives, AsksForWork, Leaves, NextStep, Local, Pending, Done, Trapped, Next, with_frames, resumed, arrived, line_at}
 use Rattle.mem_model.specs.Do.{Common, Effect, Do}

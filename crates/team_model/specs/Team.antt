@@ -22,7 +22,9 @@ use Rattle.mem_model.specs.declared.step.End.TheVariants.{Running, Ended, Stuck,
 use Rattle.mem_model.specs.declared.step.Trap.{Trap}
 use Rattle.mem_model.specs.Memory.{Memory, with_block, put_bytes}
 use Rattle.mem_model.specs.Words.{pointer_bytes}
-use Rattle.mem_model.specs.Thread.{Phase, Published, Answers, ThreadState}
+use Rattle.mem_model.specs.declared.phase.Phase.{Phase}
+use Rattle.mem_model.specs.declared.phase.Phase.TheVariants.{Published}
+use Rattle.mem_model.specs.Thread.{Answers, ThreadState}
 use Rattle.ir_core.specs.Places.{function_place}
 use Rattle.mem_model.specs.Next.{Event, Does, Deinit, Forks, Arrives, AsksForWork, Leaves, NextStep, Local, Pending, Done, Trapped, Next, resumed, arrived, line_at}
 use Rattle.mem_model.specs.Work.{given_work}
