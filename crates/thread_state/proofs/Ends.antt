@@ -40,10 +40,10 @@ tail_of (f ∷ rest) = rest
 
 -- ---- the innermost call ends
 
-pub left : (m : Module) (s t : ThreadData) (g : FrameData) (front : List FrameData) → s.frames.items ≡ front ++ g ∷ [] → t.frames.items ≡ front → t.stack.items ≡ take g.base s.stack.items → t.own ≡ s.own → t.counter ≡ s.counter → t.answers ≡ s.answers →
+pub left : (m : Module) (s t : ThreadData) (g : FrameData) (front : List FrameData) → s.frames.items ≡ front ++ g ∷ [] → t.frames.items ≡ front → t.stack.items ≡ take g.base s.stack.items → t.own ≡ s.own → t.size ≡ s.size → t.enters ≡ s.enters → t.counter ≡ s.counter → t.answers ≡ s.answers →
     (f : Frame) (rest : List Frame) → IsThread m s → (thread_seen m s).frames ≡ f ∷ rest → IsSeen m t (with_frames (thread_seen m s) rest)
 unfolding tail_of
-left m s t g front was is cut own counter answers f rest thread frames =
+left m s t g front was is cut own team enters counter answers f rest thread frames =
     let stack : List StackBlock = s.stack.items in
     let end : ℕ = length stack in
     let fs : List FrameData = reverse front in
@@ -58,4 +58,4 @@ left m s t g front was is cut own counter answers f rest thread frames =
     let numbers : (i : ℕ) (b : StackBlock) → slice_get t.stack.items i ≡ Some b → b.number < t.counter =
     λ i b e. subst (λ n. b.number < n) (sym counter) (thread.2 i b (get_take g.base i stack b (ap (λ bs. slice_get bs i) (sym cut) ∙ e))) in
     let frames_are : AreFrames m (length t.stack.items) (reverse t.frames.items) = subst (λ n. AreFrames m n (reverse t.frames.items)) (sym size) (subst (λ xs. AreFrames m g.base (reverse xs)) (sym is) are.4) in
-    ((frames_are, blocks, numbers), (λ i. record { own = own i; counter = counter i; frames = seen i; answers = answers_seen (answers i) }))
+    ((frames_are, blocks, numbers), (λ i. record { own = own i; size = team i; enters = enters i; counter = counter i; frames = seen i; answers = answers_seen (answers i) }))

@@ -77,10 +77,10 @@ module _ (s : ThreadData) (f : FrameData) (some : 0 < s.frames.len) (size : s.fr
       let e = ends g in
       let end : ℕ = length s.stack.items in
       let are : AreFrames m end (f ∷ e.front) = subst (AreFrames m end) e.was is.0 in
-      let seen : List FrameData → ThreadState = λ fs. record { own = s.own; counter = s.counter; frames = frames_seen m s.own s.stack.items end fs; answers = answers_seen s.answers } in
+      let seen : List FrameData → ThreadState = λ fs. record { own = s.own; size = s.size; enters = s.enters; counter = s.counter; frames = frames_seen m s.own s.stack.items end fs; answers = answers_seen s.answers } in
       let moved : thread_seen m (with_last s g) ≡ on_innermost go (thread_seen m s) =
       ap seen e.is
-      ∙ (λ i. record { own = s.own; counter = s.counter; frames = seen_frames m go f g r s.own s.stack.items end e.front are i; answers = answers_seen s.answers })
+      ∙ (λ i. record { own = s.own; size = s.size; enters = s.enters; counter = s.counter; frames = seen_frames m go f g r s.own s.stack.items end e.front are i; answers = answers_seen s.answers })
       ∙ ap (λ fs. on_innermost go (seen fs)) (sym e.was) in
       ((subst (AreFrames m end) (sym e.is) (are_frames m go f g r end e.front are), is.1, is.2), moved)
 

@@ -57,10 +57,10 @@ below_push n [] b below is (suc i) d e = let f : ⊥ = cc in absurd f
 below_push n (c ∷ bs) b below is zero d e = let low = below 0 d e in omega arith
 below_push n (c ∷ bs) b below is (suc i) d e = below_push n bs b (λ k. below (suc k)) is i d e
 
-pub made : (m : Module) (s t : ThreadData) (b : StackBlock) (size : ℕ) (f : Frame) (rest : List Frame) → t.stack.items ≡ s.stack.items ++ b ∷ [] → t.frames ≡ s.frames → t.own ≡ s.own → t.counter ≡ s.counter + 1 → t.answers ≡ s.answers → b.number ≡ s.counter → b.bytes.items ≡ replicate size (Num 0) →
+pub made : (m : Module) (s t : ThreadData) (b : StackBlock) (size : ℕ) (f : Frame) (rest : List Frame) → t.stack.items ≡ s.stack.items ++ b ∷ [] → t.frames ≡ s.frames → t.own ≡ s.own → t.size ≡ s.size → t.enters ≡ s.enters → t.counter ≡ s.counter + 1 → t.answers ≡ s.answers → b.number ≡ s.counter → b.bytes.items ≡ replicate size (Num 0) →
     IsThread m s → (thread_seen m s).frames ≡ f ∷ rest → IsSeen m t (record (thread_seen m s) { counter = s.counter + 1; frames = record f { blocks = ((s.own, s.counter), replicate size (Num 0)) ∷ f.blocks } ∷ rest })
 unfolding add_first
-made m s t b size f rest is frames own counter answers number bytes thread seen =
+made m s t b size f rest is frames own team enters counter answers number bytes thread seen =
     let stack : List StackBlock = s.stack.items in
     let end : ℕ = length stack in
     let fs : List FrameData = reverse s.frames.items in
@@ -73,4 +73,4 @@ made m s t b size f rest is frames own counter answers number bytes thread seen 
     let are : AreFrames m (end + 1) fs = are_more m end fs f rest s.own stack seen thread.0 in
     let are_frames : AreFrames m (length t.stack.items) (reverse t.frames.items) = subst (λ n. AreFrames m n (reverse t.frames.items)) (sym long) (subst (λ v. AreFrames m (end + 1) (reverse v.items)) (sym frames) are) in
     let blocks : AreBlocks 0 t.stack.items = subst (AreBlocks 0) (sym is) (blocks_push 0 s.counter stack b thread.1 thread.2 (omega arith) number) in
-    ((are_frames, blocks, λ i d e. subst (λ n. d.number < n) (sym counter) (below_push s.counter stack b thread.2 number i d (ap (λ bs. slice_get bs i) (sym is) ∙ e))), (λ i. record { own = own i; counter = counter i; frames = now i; answers = answers_seen (answers i) }))
+    ((are_frames, blocks, λ i d e. subst (λ n. d.number < n) (sym counter) (below_push s.counter stack b thread.2 number i d (ap (λ bs. slice_get bs i) (sym is) ∙ e))), (λ i. record { own = own i; size = team i; enters = enters i; counter = counter i; frames = now i; answers = answers_seen (answers i) }))

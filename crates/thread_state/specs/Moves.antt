@@ -3,6 +3,8 @@ use Rattle.std.specs.Prelude.{◌≡◌, ℕ, ◌+◌, List, [], ◌∷◌, reve
 use Rattle.ir_core.specs.declared.module.Module.{Module}
 use Rattle.ir_core.specs.Places.{Name, place_in, register_names}
 use Rattle.mem_model.specs.declared.memory.Word.{Word}
+use Rattle.mem_model.specs.declared.phase.Phase.{Phase}
+use Rattle.mem_model.specs.declared.phase.Phase.TheVariants.{Begins}
 use Rattle.mem_model.specs.Thread.{Registers, Code, Frame, ThreadState, no_registers, assigned}
 use Rattle.thread_state.specs.declared.state.Frame.{Frame as FrameData}
 use Rattle.thread_state.specs.declared.state.ThreadState.{ThreadState as ThreadData}
@@ -61,6 +63,10 @@ IsPlaceOf names (Some x) register = (n : ℕ) × (register ≡ Some n) × (place
 abbrev pub with_register : Option Name → Word → Code → Code
 with_register x word c = record c { registers = assigned c.registers x word }
 
+-- at the same instruction in another phase
+abbrev pub code_in : Phase → Code → Code
+code_in phase c = record c { phase = phase }
+
 abbrev pub code_at : ℕ → ℕ → Code → Code
 code_at block index c = record c { at = record c.at { block = block; index = index } }
 
@@ -77,7 +83,10 @@ abbrev pub frame_kept : FrameData → ℕ → Word → FrameData
 frame_kept f at word = record f { room = slice_set f.room at word }
 
 abbrev pub frame_past : FrameData → FrameData
-frame_past f = record f { index = f.index + 1 }
+frame_past f = record f { index = f.index + 1; phase = Begins }
+
+abbrev pub frame_in : FrameData → Phase → FrameData
+frame_in f phase = record f { phase = phase }
 
 abbrev pub frame_at : FrameData → ℕ → ℕ → FrameData
 frame_at f block index = record f { block = block; index = index }

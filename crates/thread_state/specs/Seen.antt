@@ -4,6 +4,8 @@ use Rattle.ir_core.specs.declared.module.Module.{Module}
 use Rattle.ir_core.specs.Places.{Name, Place, place_in, register_names, inst_at}
 use Rattle.mem_model.specs.declared.memory.Byte.{Byte}
 use Rattle.mem_model.specs.declared.memory.Word.{Word}
+use Rattle.mem_model.specs.declared.phase.Phase.{Phase}
+use Rattle.mem_model.specs.declared.phase.Phase.TheVariants.{Begins}
 use Rattle.thread_state.specs.declared.state.Answers.{Answers as AnswersData}
 use Rattle.thread_state.specs.declared.state.StackBlock.{StackBlock}
 use Rattle.thread_state.specs.declared.state.Frame.{Frame as FrameData}
@@ -28,13 +30,17 @@ registers_seen names values = λ x. value_at values (place_in names x)
 abbrev pub place_seen : FrameData → Place
 place_seen f = record { function = f.function; block = f.block; index = f.index }
 
--- the result of a call goes to the register that the caller's instruction names
+-- the result of a call goes to the register that the caller's instruction names; a fork and the runtime's own loop take none
+abbrev pub back_in : Option Name → Phase → Option Name
+back_in x Begins = x
+back_in x _ = None
+
 abbrev pub back_seen : Module → List FrameData → Option Name
 back_seen m [] = None
-back_seen m (caller ∷ outer) = result_of (inst_at m (place_seen caller))
+back_seen m (caller ∷ outer) = back_in (result_of (inst_at m (place_seen caller))) caller.phase
 
 abbrev pub code_seen : Module → List FrameData → FrameData → Code
-code_seen m outer f = record { at = place_seen f; registers = registers_seen (register_names m f.function) f.registers; back = back_seen m outer }
+code_seen m outer f = record { at = place_seen f; phase = f.phase; registers = registers_seen (register_names m f.function) f.registers; back = back_seen m outer }
 
 abbrev pub block_seen : ℕ → StackBlock → Spot × List Byte
 block_seen own b = ((own, b.number), b.bytes.items)
@@ -52,7 +58,7 @@ abbrev pub answers_seen : AnswersData → Answers
 answers_seen a = record { init = a.init; number = a.number; count = a.count; level = a.level; spmd = a.spmd }
 
 abbrev pub thread_seen : Module → ThreadData → ThreadState
-thread_seen m s = record { own = s.own; counter = s.counter; frames = frames_seen m s.own s.stack.items (length s.stack.items) (reverse s.frames.items); answers = answers_seen s.answers }
+thread_seen m s = record { own = s.own; size = s.size; enters = s.enters; counter = s.counter; frames = frames_seen m s.own s.stack.items (length s.stack.items) (reverse s.frames.items); answers = answers_seen s.answers }
 
 -- ---- the states that stand for one
 

@@ -3,6 +3,7 @@ use Rattle.std.specs.Prelude.{◌≡◌, ℕ, List, ◌+◌, [], ◌∷◌, reve
 use Rattle.ir_core.specs.declared.module.Module.{Module}
 use Rattle.mem_model.specs.declared.memory.Byte.{Byte}
 use Rattle.mem_model.specs.declared.memory.Byte.TheVariants.{Num}
+use Rattle.mem_model.specs.declared.phase.Phase.TheVariants.{Begins}
 use Rattle.mem_model.specs.declared.step.Trap.{Trap}
 use Rattle.ir_core.specs.Places.{register_names}
 use Rattle.mem_model.specs.declared.memory.Word.{Word}
@@ -31,6 +32,7 @@ abbrev pub entered : Module → ℕ → List (Option Word) → ThreadData → Fr
 entered m function registers s = record {
   code = record {
     at = record { function = function; block = 0; index = 0 };
+    phase = Begins;
     registers = registers_seen (register_names m function) registers;
     back = back_seen m (reverse s.frames.items);
   };

@@ -5,10 +5,10 @@ ghost use Rattle.ir_core.specs.declared.module.Module.{Module};
 ghost use Rattle.ir_core.specs.Places.{Name, place_in};
 ghost use Rattle.mem_model.specs.Next.{code_on, code_past};
 ghost use Rattle.thread_state.specs.Seen.{value_at, thread_seen, IsThread, IsSeen};
-ghost use Rattle.thread_state.specs.Moves.{first_registers, names_of, index_of, room_of, Moves, IsPlaceOf, with_register, code_at, frame_assigned, frame_kept, frame_past, frame_at};
+ghost use Rattle.thread_state.specs.Moves.{first_registers, names_of, index_of, room_of, Moves, IsPlaceOf, with_register, code_at, frame_assigned, frame_kept, frame_past, frame_at, code_in, frame_in};
 
 use crate::state::{Frame, ThreadState};
-use mem_model::Word;
+use mem_model::{Phase, Word};
 
 impl Frame {
     /// The value of the register at a place; none where it isn't assigned, or there is no such place.
@@ -89,6 +89,7 @@ impl ThreadState {
         if let Some(frame) = self.frames.last_mut() {
             frame.assign(register, word);
             frame.index += 1;
+            frame.phase = Phase::Begins;
         }
     }
 
@@ -99,6 +100,7 @@ impl ThreadState {
     {
         if let Some(frame) = self.frames.last_mut() {
             frame.index += 1;
+            frame.phase = Phase::Begins;
         }
     }
 
@@ -109,6 +111,15 @@ impl ThreadState {
         if let Some(frame) = self.frames.last_mut() {
             frame.block = block;
             frame.index = index;
+        }
+    }
+
+    /// Stays at its instruction in another phase.
+    pub fn stay(&mut self, phase: Phase)
+        ensures { (m : Module) → IsThread m self.old → Moves (code_in phase) m self.old self.new }
+    {
+        if let Some(frame) = self.frames.last_mut() {
+            frame.phase = phase;
         }
     }
 }

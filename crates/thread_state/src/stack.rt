@@ -13,7 +13,7 @@ ghost use Rattle.thread_state.specs.Stored.{IsBlockPlace, own_block, IsStored, H
 
 use crate::state::{Frame, StackBlock, ThreadState};
 use ir_core::{List, OutOfMemory};
-use mem_model::{Byte, Cell, Trap, Word, cell_size, place_in, read_word, write_word};
+use mem_model::{Byte, Cell, Phase, Trap, Word, cell_size, place_in, read_word, write_word};
 use std::alloc::Global;
 
 /// The place of the block of a number in a stack whose numbers rise; none where no block has it.
@@ -147,6 +147,7 @@ impl ThreadState {
             function,
             block: 0,
             index: 0,
+            phase: Phase::Begins,
             registers,
             room,
             base: self.stack.len(),

@@ -1,16 +1,16 @@
 //! The state of a thread: the calls that have not returned, their registers, the blocks of its stack, and what the entry
 //! points of the runtime answer to it. What a state means is `thread_seen` of `specs/Seen.antt`.
 use ir_core::List;
-use mem_model::{Byte, Word};
+use mem_model::{Byte, Phase, Word};
 
-/// What the entry points answer to a thread.
+/// What the entry points answer to a thread now.
 #[derive(Clone, Copy)]
 pub struct Answers {
     /// To `__kmpc_target_init`, modulo 2^32: -1, or a worker's number.
     pub init: u32,
-    /// Its number in a region.
+    /// Its number: 0 outside of a region.
     pub number: u32,
-    /// The number of threads of a region.
+    /// The number of threads: 1 outside of a region.
     pub count: u32,
     /// How many regions it is in.
     pub level: u32,
@@ -32,6 +32,8 @@ pub struct Frame {
     pub function: usize,
     pub block: usize,
     pub index: usize,
+    /// How far it has come in that instruction.
+    pub phase: Phase,
     /// The function's parameters and results in the order of the text, so far as they are assigned.
     pub registers: List<Option<Word>>,
     /// Room for the words of the phis that a branch assigns at once, one for each register.
@@ -43,8 +45,12 @@ pub struct Frame {
 /// The state of a thread.
 #[derive(Drop)]
 pub struct ThreadState {
-    /// Its number in the names of the blocks of its stack.
+    /// Its number, also in the names of the blocks of its stack.
     pub own: u32,
+    /// How many threads a region has.
+    pub size: u32,
+    /// Whether it enters the regions of its forks itself, as each thread of an SPMD kernel does.
+    pub enters: bool,
     /// How many blocks of its stack it has made.
     pub counter: u64,
     /// The outermost call first.

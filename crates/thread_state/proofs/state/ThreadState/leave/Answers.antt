@@ -8,4 +8,4 @@ returns-in-Some-clause-frames c = sym (ap (λ fs. drop 1 (reverse fs)) c.in-Some
 
 pub returns-in-Some-clause-seen : goal.returns-in-Some-clause-seen
 returns-in-Some-clause-seen c = λ m f rest is frames.
-    left m c.args.self.now (record c.args.self.now { frames = c.pop.new.self; stack = c.truncate.new.self }) c.in-Some.frame c.pop.new.self.items c.in-Some.ensures.items refl c.truncate.ensures.items refl refl refl f rest is frames
+    left m c.args.self.now (record c.args.self.now { frames = c.pop.new.self; stack = c.truncate.new.self }) c.in-Some.frame c.pop.new.self.items c.in-Some.ensures.items refl c.truncate.ensures.items refl refl refl refl refl f rest is frames
