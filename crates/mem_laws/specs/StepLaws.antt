@@ -47,7 +47,7 @@ PhisSwap =
     (m : Module) (t : ThreadState) (f : Frame) (rest : List Frame) (result : Option Name) (to : Name) (b : ℕ) (x y : Name) (xs ys : List Edge) (v w : Word) → StandsAt m t f rest result (Br to) → place_in (labels m f.code.at.function) to ≡ Some b →
     phis_at m f.code.at.function b ≡ record { result = Some x; edges = xs } ∷ record { result = Some y; edges = ys } ∷ [] → edge_from xs (label_at m f.code.at) ≡ Some (Register y) → edge_from ys (label_at m f.code.at) ≡ Some (Register x) →
     (x ≡ y → ⊥) → f.code.registers x ≡ Some v → f.code.registers y ≡ Some w →
-    (r : Registers) × (Next m t ≡ Local (with_frames t (record f { code = record f.code { at = record { function = f.code.at.function; block = b; index = 2 }; registers = r } } ∷ rest))) × (r x ≡ Some w) × (r y ≡ Some v)
+    (r : Registers) × (Next m t ≡ Local (with_frames t (record f { code = record f.code { at = record { function = f.code.at.function; block = b; index = 2 }; phase = Begins; registers = r } } ∷ rest))) × (r x ≡ Some w) × (r y ≡ Some v)
 
 -- the case is of another number
 abbrev pub IsNot : ℕ → Case → Type 0

@@ -51,7 +51,7 @@ with_phis m before from [] r = Ok r
 with_phis m before from (p ∷ ps) r = and_then (phi_word m before (edge_from p.edges from)) (λ word. with_phis m before from ps (assigned r p.result word))
 
 abbrev pub enters : ThreadState → Frame → List Frame → Place → Registers → NextStep
-enters t f rest at r = Local (with_frames t (record f { code = record f.code { at = at; registers = r } } ∷ rest))
+enters t f rest at r = Local (with_frames t (record f { code = record f.code { at = at; phase = Begins; registers = r } } ∷ rest))
 
 abbrev pub to_block : Module → ThreadState → Frame → List Frame → Option ℕ → NextStep
 to_block m t f rest None = Trapped Unreachable

@@ -1,15 +1,15 @@
 -- A value put at the place of a name changes what is found at that name alone.
-use Rattle.std.proofs.Common.{◌≡◌, ℕ, zero, suc, ◌+◌, ◌<◌, ◌≤◌, List, [], ◌∷◌, length, refl, sym, ap, ◌∙◌, arith, slice_set, slice_get, Option, Some, None, Bool, true, false, cond, if◌then◌else◌}
+use Rattle.std.proofs.Common.{◌≡◌, ℕ, zero, suc, ◌+◌, ◌<◌, ◌≤◌, List, [], ◌∷◌, length, refl, sym, ap, ◌∙◌, arith, slice_set, slice_get, Option, Some, None, Bool, true, false, cond, if◌then◌else◌, inl, inr}
 use Rattle.std.specs.Str.{bytes_eq}
 use Rattle.std.proofs.lemmas.List.{length-set}
 use Rattle.std.proofs.lemmas.Slice.Eq.{bytes_eq-Decides}
 use Rattle.ir_core.specs.declared.module.Module.{Module}
-use Rattle.ir_core.specs.Places.{Name, place_from, place_in, register_names}
+use Rattle.ir_core.specs.Places.{Name, place_from, place_in, register_names, inst_at}
 use Rattle.mem_model.specs.declared.memory.Word.{Word}
 use Rattle.mem_model.specs.Thread.{assigned}
 use Rattle.mem_model.specs.Next.{code_on, code_past}
 use Rattle.thread_state.specs.declared.state.Frame.{Frame as FrameData}
-use Rattle.thread_state.specs.Seen.{value_at, value_or_none, registers_seen, code_seen}
+use Rattle.thread_state.specs.Seen.{value_at, value_or_none, registers_seen, code_seen, place_seen, IsLongInst}
 use Rattle.thread_state.specs.Moves.{IsPlaceOf, with_register, code_at, put_value, frame_assigned, frame_kept, frame_past, frame_at, code_in, frame_in}
 use Rattle.mem_model.specs.declared.phase.Phase.{Phase}
 use Rattle.thread_state.proofs.Frames.{Replaces}
@@ -89,6 +89,7 @@ assigns m f x register word is = record {
   room = refl;
   function = refl;
   base = refl;
+  fits = λ h. h;
   code = λ size outer. λ i. record (code_seen m outer f) { registers = registers_put (register_names m f.function) f.registers size x register word is i };
 }
 
@@ -98,17 +99,18 @@ goes_behind m f x register word is = record {
   room = refl;
   function = refl;
   base = refl;
+  fits = λ h. inl refl;
   code = λ size outer. λ i. record (code_seen m outer (frame_past f)) { registers = registers_put (register_names m f.function) f.registers size x register word is i };
 }
 
 pub passes : (m : Module) (f : FrameData) → Replaces m code_past f (frame_past f)
-passes m f = record { size = refl; room = refl; function = refl; base = refl; code = λ size outer. refl }
+passes m f = record { size = refl; room = refl; function = refl; base = refl; fits = λ h. inl refl; code = λ size outer. refl }
 
-pub stays : (m : Module) (f : FrameData) (phase : Phase) → Replaces m (code_in phase) f (frame_in f phase)
-stays m f phase = record { size = refl; room = refl; function = refl; base = refl; code = λ size outer. refl }
+pub stays : (m : Module) (f : FrameData) (phase : Phase) → IsLongInst m (inst_at m (place_seen f)) → Replaces m (code_in phase) f (frame_in f phase)
+stays m f phase long = record { size = refl; room = refl; function = refl; base = refl; fits = λ h. inr long; code = λ size outer. refl }
 
 pub keeps : (m : Module) (f : FrameData) (at : ℕ) (word : Word) → Replaces m (λ c. c) f (frame_kept f at word)
-keeps m f at word = record { size = refl; room = length-set f.room at word; function = refl; base = refl; code = λ size outer. refl }
+keeps m f at word = record { size = refl; room = length-set f.room at word; function = refl; base = refl; fits = λ h. h; code = λ size outer. refl }
 
 pub jumps : (m : Module) (f : FrameData) (block index : ℕ) → Replaces m (code_at block index) f (frame_at f block index)
-jumps m f block index = record { size = refl; room = refl; function = refl; base = refl; code = λ size outer. refl }
+jumps m f block index = record { size = refl; room = refl; function = refl; base = refl; fits = λ h. inl refl; code = λ size outer. refl }

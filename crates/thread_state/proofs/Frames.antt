@@ -3,12 +3,12 @@ use Rattle.std.proofs.Common.{◌≡◌, ℕ, ◌+◌, ◌-◌, ◌<◌, ◌≤�
 use Rattle.std.proofs.lemmas.List.{take_more, take_more_set, take_all, reverse-append, length-set}
 use Rattle.ir_core.specs.declared.module.Module.{Module}
 use Rattle.std.specs.Vec.{with_item}
-use Rattle.ir_core.specs.Places.{Name, register_names}
+use Rattle.ir_core.specs.Places.{Name, register_names, inst_at}
 use Rattle.mem_model.specs.Thread.{Code, Frame, ThreadState}
 use Rattle.thread_state.specs.declared.state.Frame.{Frame as FrameData}
 use Rattle.thread_state.specs.declared.state.StackBlock.{StackBlock}
 use Rattle.thread_state.specs.declared.state.ThreadState.{ThreadState as ThreadData}
-use Rattle.thread_state.specs.Seen.{code_seen, blocks_seen, frames_seen, answers_seen, thread_seen, AreFrames, IsThread, IsSeen}
+use Rattle.thread_state.specs.Seen.{code_seen, blocks_seen, frames_seen, answers_seen, thread_seen, place_seen, IsLongInst, FirstIsLong, StandsAtLong, PhaseFits, AreFrames, IsThread, IsSeen}
 use Rattle.thread_state.specs.Moves.{first_names, names_of, first_room, room_of, on_first, on_innermost, IsPlaceOf, Moves}
 
 -- ---- the last of a list
@@ -36,6 +36,7 @@ pub record Replaces (m : Module) (go : Code → Code) (f g : FrameData) : Type 0
   pub room : length g.room ≡ length f.room
   pub function : g.function ≡ f.function
   pub base : g.base ≡ f.base
+  pub fits : PhaseFits m f → PhaseFits m g
   pub code : length f.registers ≡ length (register_names m f.function) → (outer : List FrameData) → code_seen m outer g ≡ go (code_seen m outer f)
 
 module _ (m : Module) (go : Code → Code) (f g : FrameData) (r : Replaces m go f g) where
@@ -44,7 +45,7 @@ module _ (m : Module) (go : Code → Code) (f g : FrameData) (r : Replaces m go 
     r.size ∙ are.0 ∙ ap (λ k. length (register_names m k)) (sym r.function),
     r.room ∙ are.1 ∙ ap (λ k. length (register_names m k)) (sym r.function),
     subst (λ b. b ≤ end) (sym r.base) are.2,
-    are.3,
+    (are.3.0, r.fits are.3.1),
     subst (λ b. AreFrames m b outer) (sym r.base) are.4,
   )
 
@@ -62,6 +63,9 @@ module _ (s : ThreadData) (f : FrameData) (some : 0 < s.frames.len) (size : s.fr
   -- a place among the names of the innermost call's registers
   pub innermost_place : (m : Module) (x : Option Name) (register : Option ℕ) → IsPlaceOf (names_of m s) x register → IsPlaceOf (register_names m f.function) x register
   innermost_place m x register = subst (λ fs. IsPlaceOf (first_names m fs) x register) (ends f).was
+
+  pub innermost_long : (m : Module) → StandsAtLong m s → IsLongInst m (inst_at m (place_seen f))
+  innermost_long m = subst (FirstIsLong m) (ends f).was
 
   pub room_with : (g : FrameData) → room_of (with_last s g) ≡ g.room
   room_with g = ap first_room (ends g).is

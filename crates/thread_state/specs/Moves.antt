@@ -68,7 +68,7 @@ abbrev pub code_in : Phase → Code → Code
 code_in phase c = record c { phase = phase }
 
 abbrev pub code_at : ℕ → ℕ → Code → Code
-code_at block index c = record c { at = record c.at { block = block; index = index } }
+code_at block index c = record c { at = record c.at { block = block; index = index }; phase = Begins }
 
 -- ---- the same of a call in the code
 
@@ -89,4 +89,4 @@ abbrev pub frame_in : FrameData → Phase → FrameData
 frame_in f phase = record f { phase = phase }
 
 abbrev pub frame_at : FrameData → ℕ → ℕ → FrameData
-frame_at f block index = record f { block = block; index = index }
+frame_at f block index = record f { block = block; index = index; phase = Begins }

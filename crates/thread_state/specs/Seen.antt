@@ -1,6 +1,11 @@
 -- What the state of a thread in the code means: its registers by name, and its stack blocks with the calls that made them.
-use Rattle.std.specs.Prelude.{◌≡◌, ℕ, ◌+◌, ◌-◌, ◌<◌, ◌≤◌, List, [], ◌∷◌, length, map, reverse, take, drop, slice_get, Option, Some, None, IsSome}
+use Rattle.std.specs.Prelude.{◌≡◌, ◌⊎◌, ℕ, ◌+◌, ◌-◌, ◌<◌, ◌≤◌, List, [], ◌∷◌, length, map, reverse, take, drop, slice_get, Option, Some, None, IsSome, true}
+use Rattle.ir_core.specs.declared.instructions.Typed.{Typed}
+use Rattle.ir_core.specs.declared.instructions.Kind.{Kind}
+use Rattle.ir_core.specs.declared.instructions.Kind.TheVariants.{Call}
+use Rattle.ir_core.specs.declared.instructions.Inst.{Inst}
 use Rattle.ir_core.specs.declared.module.Module.{Module}
+use Rattle.ir_core.specs.declared.rtl.Rtl.TheVariants.{TargetInit, Parallel}
 use Rattle.ir_core.specs.Places.{Name, Place, place_in, register_names, inst_at}
 use Rattle.mem_model.specs.declared.memory.Byte.{Byte}
 use Rattle.mem_model.specs.declared.memory.Word.{Word}
@@ -11,7 +16,8 @@ use Rattle.thread_state.specs.declared.state.StackBlock.{StackBlock}
 use Rattle.thread_state.specs.declared.state.Frame.{Frame as FrameData}
 use Rattle.thread_state.specs.declared.state.ThreadState.{ThreadState as ThreadData}
 use Rattle.mem_model.specs.Thread.{Registers, Code, Spot, Frame, Answers, ThreadState}
-use Rattle.mem_model.specs.Next.{result_of}
+use Rattle.mem_model.specs.Next.{result_of, Callee, CallsEntry, callee_of}
+use Rattle.mem_model.specs.Entries.{runs_loop}
 
 -- ---- what a state means
 
@@ -67,11 +73,29 @@ abbrev pub StandsAtCall : Module → List FrameData → Type 0
 StandsAtCall m [] = Unit {0}
 StandsAtCall m (caller ∷ outer) = IsSome (inst_at m (place_seen caller))
 
+-- an instruction that takes several steps: a fork, and an init call that begins the runtime's own loop
+abbrev pub IsLong : List Typed → Callee → Type 0
+IsLong operands (CallsEntry Parallel) = Unit {0}
+IsLong operands (CallsEntry TargetInit) = runs_loop operands ≡ true
+IsLong operands _ = ⊥
+
+abbrev pub IsLongKind : Module → Kind → Type 0
+IsLongKind m (Call tail_word ret callee operands) = IsLong operands (callee_of m callee)
+IsLongKind m _ = ⊥
+
+abbrev pub IsLongInst : Module → Option Inst → Type 0
+IsLongInst m None = ⊥
+IsLongInst m (Some i) = IsLongKind m i.kind
+
+-- a call is in the midst of such an instruction alone
+abbrev pub PhaseFits : Module → FrameData → Type 0
+PhaseFits m f = (f.phase ≡ Begins) ⊎ IsLongInst m (inst_at m (place_seen f))
+
 -- each call has a value or none for each register, and room for as many words; the blocks of the stack below it stay below
 abbrev pub AreFrames : Module → ℕ → List FrameData → Type 0
 AreFrames m end [] = end ≡ 0
 AreFrames m end (f ∷ outer) =
-    (length f.registers ≡ length (register_names m f.function)) × (length f.room ≡ length (register_names m f.function)) × (f.base ≤ end) × StandsAtCall m outer × AreFrames m f.base outer
+    (length f.registers ≡ length (register_names m f.function)) × (length f.room ≡ length (register_names m f.function)) × (f.base ≤ end) × (StandsAtCall m outer × PhaseFits m f) × AreFrames m f.base outer
 
 -- the numbers of the blocks rise, and stay below how many were made
 abbrev pub AreBlocks : ℕ → List StackBlock → Type 0
@@ -84,3 +108,11 @@ IsThread m s = AreFrames m (length s.stack.items) (reverse s.frames.items) × Ar
 -- a state that stands for this one
 abbrev pub IsSeen : Module → ThreadData → ThreadState → Type 0
 IsSeen m s t = IsThread m s × (thread_seen m s ≡ t)
+
+abbrev pub FirstIsLong : Module → List FrameData → Type 0
+FirstIsLong m [] = Unit {0}
+FirstIsLong m (f ∷ outer) = IsLongInst m (inst_at m (place_seen f))
+
+-- the innermost call stands at an instruction that takes several steps
+abbrev pub StandsAtLong : Module → ThreadData → Type 0
+StandsAtLong m s = FirstIsLong m (reverse s.frames.items)
