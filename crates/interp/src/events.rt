@@ -14,7 +14,7 @@ ghost use Rattle.thread_state.specs.Seen.{thread_seen, IsThread};
 ghost use Rattle.thread_state.specs.Moves.{index_of};
 ghost use Rattle.interp_local.specs.Operands.{AreFew};
 ghost use Rattle.interp_local.specs.Actions.{IsAction, IsChange, acted};
-ghost use Rattle.interp_local.specs.Steps.{AreSized};
+ghost use Rattle.interp_local.specs.Steps.{AreServed};
 ghost use Rattle.interp.specs.Events.{IsHere, IsPending, IsUpdated, Makes, HasHappened};
 
 use crate::shared::{Answer, TeamShared};
@@ -173,7 +173,7 @@ pub fn event(
 ) -> Result<Answer, OutOfMemory>
     requires state { IsThread m.now s.old }
     requires few { AreFew m.now }
-    requires sized { AreSized m.now }
+    requires served { AreServed m.now }
     requires pending { IsPending (Next m.now (thread_seen m.now s.old)) }
     requires local { local < 2000000 }
     requires runs { slice_get sh.old.stands thread ≡ Some Stand.Runs }

@@ -6,7 +6,7 @@ ghost use Rattle.mem_model.specs.Next.{Next, line_at};
 ghost use Rattle.team_model.specs.Team as spec;
 ghost use Rattle.thread_state.specs.Seen.{thread_seen, IsThread};
 ghost use Rattle.interp_local.specs.Operands.{AreFew};
-ghost use Rattle.interp_local.specs.Steps.{AreSized};
+ghost use Rattle.interp_local.specs.Steps.{AreServed};
 ghost use Rattle.interp.specs.Events.{IsPending};
 ghost use Rattle.interp.specs.Teams.{team_seen, AreThreads, HasAdvanced, HasStepped, is_running};
 
@@ -119,7 +119,7 @@ fn happen(
 ) -> Result<Moved, Or<NotReady>>
     requires state { IsThread m.now s.old }
     requires few { AreFew m.now }
-    requires sized { AreSized m.now }
+    requires served { AreServed m.now }
     requires pending { IsPending (Next m.now (thread_seen m.now s.old)) }
     requires running { is_running sh.old thread ≡ true }
     ensures { HasAdvanced m.now thread sh.old sh.new s.old s.new result }
@@ -141,7 +141,7 @@ fn advance(
 ) -> Result<Moved, Or<NotReady>>
     requires state { IsThread m.now s.old }
     requires few { AreFew m.now }
-    requires sized { AreSized m.now }
+    requires served { AreServed m.now }
     requires running { is_running sh.old thread ≡ true }
     ensures { HasAdvanced m.now thread sh.old sh.new s.old s.new result }
 {
@@ -180,7 +180,7 @@ fn is_ready(sh: &TeamShared, thread: u32) -> bool
 pub fn step(alloc: Global, m: &Indexed, t: &mut Team, thread: u32) -> Result<Moved, Or<NotReady>>
     requires threads { AreThreads m.now t.old.threads.items }
     requires few { AreFew m.now }
-    requires sized { AreSized m.now }
+    requires served { AreServed m.now }
     ensures { HasStepped m.now thread t.old t.new result }
 {
     if !is_ready(&t.shared, thread) {

@@ -1,7 +1,6 @@
 -- The action of an instruction is its next step.
 use Rattle.std.proofs.Common.{◌≡◌, ℕ, ◌<◌, ◌≤◌, min, arith, ◌⊎◌, List, [], ◌∷◌, Bool, true, false, Option, Some, None, Result, Ok, Err, refl, sym, ap, ◌∙◌}
-use Rattle.std.specs.Prelude.{slice_get, nat_le, if◌then◌else◌, ◌==◌}
-use Rattle.std.specs.Str.{bytes_eq}
+use Rattle.std.specs.Prelude.{slice_get, nat_le, ◌&&◌, if◌then◌else◌, ◌==◌}
 use Rattle.std.proofs.Math.Nat.{min-le_left}
 use Rattle.std.proofs.lemmas.Bool.{and_parts, le-leb, leb-true, false_from_ne_true}
 use Rattle.mem_model.proofs.Calls.{limit_is}
@@ -16,7 +15,8 @@ use Rattle.ir_core.specs.declared.module.Module.{Module}
 use Rattle.ir_core.specs.declared.module.Function.{Function}
 use Rattle.ir_core.specs.declared.module.Param.{Param}
 use Rattle.ir_core.specs.declared.module.Block.{Block}
-use Rattle.ir_core.specs.EntryPoints.{target_init, target_deinit}
+use Rattle.ir_core.specs.declared.rtl.Rtl.{Rtl}
+use Rattle.ir_core.specs.declared.rtl.Rtl.TheVariants.{TargetInit, TargetDeinit}
 use Rattle.ir_core.specs.FirstForm.{is_scalar, is_width}
 use Rattle.ir_core.specs.Layout.{Size, Offset}
 use Rattle.mem_model.specs.Memory.{block_limit}
@@ -29,12 +29,15 @@ use Rattle.mem_model.specs.declared.step.Trap.TheVariants.{Unreachable, TooLarge
 use Rattle.mem_model.specs.Eval.{Eval, compared}
 use Rattle.mem_model.specs.Thread.{Frame, ThreadState, where_is}
 use Rattle.mem_model.specs.Values.{cell_of, width_of, value_word, is_word_of, of_type, operand, and_then, converted, path_of}
-use Rattle.mem_model.specs.Next.{NextStep, Local, Trapped, goes_on, with_found, with_number, with_pointer, with_result, loads, stores, allocates, case_for, to_block, to_label, Callee, CallsInit, CallsDeinit, CallsFunction, CallsOther, with_body, defined_as, defined_at, callee_of, next_call, next_kind}
+use Rattle.mem_model.specs.Entries.{is_worker, runs_loop}
+use Rattle.mem_model.specs.declared.phase.LoopPoint.TheVariants.{Sleeps}
+use Rattle.mem_model.specs.declared.phase.Phase.TheVariants.{Loops}
+use Rattle.mem_model.specs.Next.{NextStep, Local, Trapped, goes_on, with_found, with_number, with_pointer, with_result, loads, stores, allocates, case_for, to_block, to_label, goes_in, entry_of, entry_or, Callee, CallsEntry, CallsFunction, CallsOther, with_body, defined_as, defined_at, callee_of, next_call, next_kind}
 use Rattle.interp_local.specs.declared.actions.Action.{Action}
 use Rattle.interp_local.specs.declared.actions.Action.TheVariants.{Loads, Stores, Allocates}
 use Rattle.interp_local.specs.Operands.{as_number, as_pointer, cell, or_unreachable}
 use Rattle.interp_local.specs.Actions.{gives, call_action, jump, block_action, arguments, action_of, decided}
-use Rattle.interp_local.specs.Steps.{IsSized}
+use Rattle.interp_local.specs.Steps.{IsRun, IsServed}
 
 -- ---- a function with blocks that is called is the one at its place
 
@@ -50,14 +53,12 @@ defined_place : (m : Module) (o : Option ℕ) (k : ℕ) (params : List Param) �
 defined_place m None k params e = let f : ⊥ = cc in absurd f
 defined_place m (Some n) k params e = ap (λ j. defined_at m (Some j)) (sym (defined_as_place m n k params (slice_get m.functions n) e)) ∙ e
 
-callee_by : (m : Module) (init deinit : Bool) (c : Callee) (k : ℕ) (params : List Param) → (c ≡ CallsFunction k params → defined_at m (Some k) ≡ CallsFunction k params) → (if init then CallsInit else if deinit then CallsDeinit else c) ≡ CallsFunction k params → defined_at m (Some k) ≡ CallsFunction k params
-callee_by m true deinit c k params go e = let f : ⊥ = cc in absurd f
-callee_by m false true c k params go e = let f : ⊥ = cc in absurd f
-callee_by m false false c k params go e = go e
+entry_place : (m : Module) (o : Option Rtl) (c : Callee) (k : ℕ) (params : List Param) → (c ≡ CallsFunction k params → defined_at m (Some k) ≡ CallsFunction k params) → entry_or o c ≡ CallsFunction k params → defined_at m (Some k) ≡ CallsFunction k params
+entry_place m None c k params go e = go e
+entry_place m (Some r) c k params go e = let f : ⊥ = cc in absurd f
 
 callee_place : (m : Module) (v : Value) (k : ℕ) (params : List Param) → callee_of m v ≡ CallsFunction k params → defined_at m (Some k) ≡ CallsFunction k params
-callee_place m (GlobalValue x) k params e =
-    callee_by m (bytes_eq x target_init) (bytes_eq x target_deinit) (defined_at m (function_place m x)) k params (defined_place m (function_place m x) k params) e
+callee_place m (GlobalValue x) k params e = entry_place m (entry_of x) (defined_at m (function_place m x)) k params (defined_place m (function_place m x) k params) e
 callee_place m (IntValue n) k params e = let f : ⊥ = cc in absurd f
 callee_place m Null k params e = let f : ⊥ = cc in absurd f
 callee_place m (Register x) k params e = let f : ⊥ = cc in absurd f
@@ -146,13 +147,19 @@ module _ (m : Module) (t : ThreadState) (f : Frame) (rest : List Frame) (x : Opt
   jump_is : (to : Name) → D (jump m f.code.at.function to) ≡ to_label m t f rest to
   jump_is to = jump_by (place_in (labels m f.code.at.function) to)
 
-  call_by : (c : Callee) → ((k : ℕ) (params : List Param) → c ≡ CallsFunction k params → defined_at m (Some k) ≡ CallsFunction k params) → D (call_action t.answers.init c) ≡ next_call m t f rest x args c
-  call_by CallsInit h = refl
-  call_by CallsDeinit h = refl
-  call_by CallsOther h = refl
-  call_by (CallsFunction k params) h = ap (next_call m t f rest x args) (h k params refl)
+  call_by : (c : Callee) → IsRun args c → ((k : ℕ) (params : List Param) → c ≡ CallsFunction k params → defined_at m (Some k) ≡ CallsFunction k params) → D (call_action t.answers.init c) ≡ next_call m t f rest x args c
+  call_by (CallsEntry TargetInit) is h = sym (begins (is_worker t) (runs_loop args) is)
+    where
+      begins : (a b : Bool) → b ≡ false → (if a && b then Local (goes_in t f rest (Loops Sleeps)) else Local (goes_on t f rest x (Int t.answers.init))) ≡ Local (goes_on t f rest x (Int t.answers.init))
+      begins a true e = let g : ⊥ = cc in absurd g
+      begins true false e = refl
+      begins false false e = refl
+  call_by (CallsEntry TargetDeinit) is h = refl
+  call_by (CallsEntry r) is h = absurd is
+  call_by CallsOther is h = refl
+  call_by (CallsFunction k params) is h = ap (next_call m t f rest x args) (h k params refl)
 
-pub action_is : (m : Module) (t : ThreadState) (f : Frame) (rest : List Frame) (x : Option Name) (k : Kind) → IsSized m k → decided m t f rest x (arguments k) (action_of m f.code.at.function f.code.registers t.answers.init k) ≡ next_kind m t f rest x k
+pub action_is : (m : Module) (t : ThreadState) (f : Frame) (rest : List Frame) (x : Option Name) (k : Kind) → IsServed m k → decided m t f rest x (arguments k) (action_of m f.code.at.function f.code.registers t.answers.init k) ≡ next_kind m t f rest x k
 action_is m t f rest x (Bin op flags ty a b) s =
     g_number m t f rest x [] (operand m f.code.registers ty a) _ _ (λ i. g_number m t f rest x [] (operand m f.code.registers ty b) _ _ (λ j. g_then m t f rest x [] (Eval op flags (width_of ty) i j) _ _ (λ n. refl)))
 action_is m t f rest x (ICmp pred ty a b) s =
@@ -170,7 +177,7 @@ action_is m t f rest x (Rmw op at value order align) s =
 action_is m t f rest x (Gep inbounds ty base path) s =
     g_pointer m t f rest x [] (operand m f.code.registers base.ty base.value) _ _ (λ p. g_then m t f rest x [] (path_of m f.code.registers path) _ _ (λ indices. g_result m t f rest x [] (Offset m.types ty indices) _ _ (λ d. refl)))
 action_is m t f rest x (Fence order) s = refl
-action_is m t f rest x (Call tail_word ret callee operands) s = call_by m t f rest x operands (callee_of m callee) (callee_place m callee)
+action_is m t f rest x (Call tail_word ret callee operands) s = call_by m t f rest x operands (callee_of m callee) s (callee_place m callee)
 action_is m t f rest x (Br to) s = jump_is m t f rest x [] to
 action_is m t f rest x (CondBr c then_to else_to) s = d_number m t f rest x [] (operand m f.code.registers c.ty c.value) _ _ (λ n. jump_is m t f rest x [] (if n == 0 then else_to else then_to))
 action_is m t f rest x (Switch on other cases) s = d_number m t f rest x [] (operand m f.code.registers on.ty on.value) _ _ (λ n. jump_is m t f rest x [] (case_for n other cases))

@@ -13,6 +13,7 @@ use Rattle.ir_core.specs.declared.module.Param.{Param}
 use Rattle.ir_core.specs.declared.module.Function.{Function}
 use Rattle.ir_core.specs.Places.{Name, place_from, place_in, param_name, block_results, register_names_of, register_names}
 use Rattle.mem_model.specs.declared.memory.Word.{Word}
+use Rattle.mem_model.specs.declared.phase.Phase.TheVariants.{Begins}
 use Rattle.mem_model.specs.declared.step.Trap.{Trap}
 use Rattle.mem_model.specs.Thread.{Frame, ThreadState, bound}
 use Rattle.mem_model.specs.Values.{value_word, and_then, operand_words}
@@ -28,6 +29,7 @@ use Rattle.interp_local.specs.Calls.{put_words, AreBound}
 use Rattle.interp_local.specs.Steps.{IsOwn, first_inst, inst_of}
 use Rattle.interp_local.proofs.Branches.{drop_get}
 use Rattle.interp_local.proofs.Returned.{back_of}
+use Rattle.interp_local.proofs.Begins.{FirstBegins}
 
 -- ---- words put in places, one after another
 
@@ -190,18 +192,18 @@ stands_at m s i e = by_first (reverse s.frames.items) e
     by_first [] e = tt
     by_first (g ∷ outer) e = subst IsSome (sym e) refl
 
-pub call_goes : (m : Module) (s new : ThreadData) (i : Inst) (k : ℕ) (g : Function) (words : List Word) (values : List (Option Word)) (args : List Typed) (f : Frame) (rest : List Frame) → inst_of m s ≡ Some i → (thread_seen m s).frames ≡ f ∷ rest → slice_get m.functions k ≡ Some g → defined_at m (Some k) ≡ CallsFunction k g.params →
+pub call_goes : (m : Module) (s new : ThreadData) (i : Inst) (k : ℕ) (g : Function) (words : List Word) (values : List (Option Word)) (args : List Typed) (f : Frame) (rest : List Frame) → FirstBegins (reverse s.frames.items) → inst_of m s ≡ Some i → (thread_seen m s).frames ≡ f ∷ rest → slice_get m.functions k ≡ Some g → defined_at m (Some k) ≡ CallsFunction k g.params →
     operand_words m (registers m s) args ≡ Ok words → values ≡ put_words (length g.params) words (replicate (length (register_names m k)) None) → IsSeen m new (with_frames (thread_seen m s) (entered m k values s ∷ (thread_seen m s).frames)) →
     IsOwn m s new (next_call m (thread_seen m s) f rest i.result args (defined_at m (Some k))) (Ok Went)
-call_goes m s new i k g words values args f rest is frames there defined read are seen =
+call_goes m s new i k g words values args f rest begins is frames there defined read are seen =
     let t : ThreadState = thread_seen m s in
     let regs : registers_seen (register_names m k) values ≡ bound g.params words = ap (registers_seen (register_names m k)) are ∙ function_registers (slice_get m.functions k) g words there in
-    let back : back_seen m (reverse s.frames.items) ≡ i.result = back_of m (reverse s.frames.items) ∙ ap result_of is in
+    let back : back_seen m (reverse s.frames.items) ≡ i.result = back_of m (reverse s.frames.items) begins ∙ ap result_of is in
     let own : f.code.registers ≡ registers m s = sym (ap first_registers frames) in
     subst (λ c. IsOwn m s new (next_call m t f rest i.result args c) (Ok Went)) (sym defined)
     (subst (λ r. IsOwn m s new (with_found r (λ ws. Local (with_frames t (called k g.params ws i.result ∷ f ∷ rest)))) (Ok Went)) (sym (ap (λ r. operand_words m r args) own ∙ read)) (
       seen.0,
-      seen.1 ∙ (λ j. with_frames t (record { code = record { at = record { function = k; block = 0; index = 0 }; registers = regs j; back = back j }; blocks = [] } ∷ frames j)),
+      seen.1 ∙ (λ j. with_frames t (record { code = record { at = record { function = k; block = 0; index = 0 }; phase = Begins; registers = regs j; back = back j }; blocks = [] } ∷ frames j)),
     ))
 
 pub call_traps : (m : Module) (s : ThreadData) (i : Inst) (k : ℕ) (params : List Param) (e : Trap) (args : List Typed) (f : Frame) (rest : List Frame) → IsThread m s → (thread_seen m s).frames ≡ f ∷ rest → defined_at m (Some k) ≡ CallsFunction k params → operand_words m (registers m s) args ≡ Err e →

@@ -8,3 +8,5 @@ pub mod Moved
 pub mod Nexts
 pub mod Results
 pub mod Returned
+pub mod Begins
+pub mod EntryNames

@@ -1,21 +1,31 @@
 -- Own steps of the innermost call, from what the calls on a thread's state say.
-use Rattle.std.proofs.Common.{◌≡◌, ℕ, List, [], ◌∷◌, map, take, drop, reverse, ◌-◌, false, Some, None, Result, Ok, Err, refl, sym, ap, ◌∙◌, subst, arith, cond, length}
+use Rattle.std.proofs.Common.{◌≡◌, ℕ, ◌+◌, ◌≤◌, pos, List, [], ◌∷◌, map, take, drop, reverse, replicate, ◌-◌, true, false, Option, Some, None, Result, Ok, Err, refl, sym, ap, ◌∙◌, subst, arith, cond, length}
+use Rattle.std.specs.Prelude.{nat_le, if◌then◌else◌}
+use Rattle.std.proofs.lemmas.Bool.{le-leb}
+use Rattle.ir_core.specs.Places.{Name}
+use Rattle.mem_model.specs.declared.memory.BlockName.TheVariants.{Stack}
+use Rattle.mem_model.specs.declared.memory.Byte.TheVariants.{Num}
+use Rattle.mem_model.specs.declared.memory.Ptr.TheVariants.{At}
+use Rattle.mem_model.specs.declared.memory.Word.{Word}
+use Rattle.mem_model.specs.declared.memory.Word.TheVariants.{Ptr as Address}
+use Rattle.mem_model.specs.declared.step.Trap.TheVariants.{TooLarge}
+use Rattle.mem_model.specs.Memory.{block_limit}
 use Rattle.std.proofs.lemmas.Bool.Decides.{nat_tests}
 use Rattle.ir_core.specs.declared.module.Module.{Module}
 use Rattle.mem_model.specs.declared.memory.Byte.{Byte}
 use Rattle.mem_model.specs.declared.step.Trap.{Trap}
 use Rattle.mem_model.specs.Thread.{Code, Frame, same_spot, or_else, find_block, find_in, put_in}
-use Rattle.mem_model.specs.Next.{NextStep, Local, with_found, with_frames, code_past}
+use Rattle.mem_model.specs.Next.{NextStep, Local, Trapped, with_found, with_frames, code_on, code_past, allocates}
 use Rattle.thread_state.specs.declared.state.Frame.{Frame as FrameData}
 use Rattle.thread_state.specs.declared.state.StackBlock.{StackBlock}
 use Rattle.thread_state.specs.declared.state.ThreadState.{ThreadState as ThreadData}
-use Rattle.thread_state.specs.Seen.{block_seen, blocks_seen, frames_seen, thread_seen, IsThread}
-use Rattle.thread_state.specs.Moves.{on_first, on_innermost, Moves}
+use Rattle.thread_state.specs.Seen.{block_seen, blocks_seen, frames_seen, thread_seen, IsThread, IsSeen}
+use Rattle.thread_state.specs.Moves.{names_of, on_first, on_innermost, IsPlaceOf, Moves}
 use Rattle.thread_state.specs.Stored.{own_block, IsStored}
 use Rattle.thread_state.proofs.Stacks.{map-reverse}
 use Rattle.interp_local.specs.declared.steps.Own.{Own}
 use Rattle.interp_local.specs.declared.steps.Own.TheVariants.{Went}
-use Rattle.interp_local.specs.Steps.{IsOwn}
+use Rattle.interp_local.specs.Steps.{IsOwn, Knows}
 
 -- ---- what was found
 
@@ -79,3 +89,15 @@ stored m t number old mid new r u f rest frames same h goes =
     let seen : thread_seen m new ≡ with_frames (thread_seen m old) (put_in (t, number) p.0 (record f { code = code_past f.code } ∷ rest)) =
     q.1 ∙ ap (on_innermost code_past) p.3 ∙ (λ i. with_frames (thread_seen m old) (on_first code_past (put_in (sym same i, number) p.0 (frames i)))) in
     went m old new r _ p.0 p.1 (q.0, seen)
+
+-- ---- a new block of the stack
+
+pub allocated : (m : Module) (s mid new : ThreadData) (x : Option Name) (register : Option ℕ) (size : ℕ) (f : Frame) (rest : List Frame) → Knows m s x register f rest → size ≤ block_limit → names_of m mid ≡ names_of m s →
+    IsSeen m mid (record (thread_seen m s) { counter = s.counter + 1; frames = record f { blocks = ((s.own, s.counter), replicate size (Num 0)) ∷ f.blocks } ∷ rest }) →
+    (IsThread m mid → IsPlaceOf (names_of m mid) x register → Moves (λ c. code_on c x (Address (At (Stack s.own s.counter) (pos 0)))) m mid new) → IsOwn m s new (allocates (thread_seen m s) f rest x size) (Ok Went)
+allocated m s mid new x register size f rest k low same seen goes =
+    let address : Word = Address (At (Stack s.own s.counter) (pos 0)) in
+    let q = goes seen.0 (subst (λ names. IsPlaceOf names x register) (sym same) k.place) in
+    let within : nat_le size block_limit ≡ true = le-leb size block_limit low in
+    subst (λ nx. IsOwn m s new nx (Ok Went)) (sym (ap (λ b. if b then Local (record (thread_seen m s) { counter = s.counter + 1; frames = record { code = code_on f.code x address; blocks = ((s.own, s.counter), replicate size (Num 0)) ∷ f.blocks } ∷ rest }) else Trapped TooLarge) within))
+    (q.0, q.1 ∙ ap (on_innermost (λ c. code_on c x address)) seen.1)

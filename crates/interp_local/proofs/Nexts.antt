@@ -7,6 +7,7 @@ use Rattle.ir_core.specs.declared.instructions.Kind.{Kind}
 use Rattle.ir_core.specs.declared.instructions.Kind.TheVariants.{Bin, ICmp, Cast, Select, Phi, Alloca, Load as LoadInst, Store as StoreInst, Rmw, Gep, Fence, Call, Br, CondBr, Switch, Ret, Unreachable as UnreachableInst}
 use Rattle.ir_core.specs.declared.instructions.Inst.{Inst}
 use Rattle.ir_core.specs.declared.module.Module.{Module}
+use Rattle.ir_core.specs.declared.rtl.Rtl.TheVariants.{TargetInit, TargetDeinit}
 use Rattle.ir_core.specs.declared.answers.Or.{Or}
 use Rattle.ir_core.specs.declared.answers.Or.TheVariants.{Refused, Memory as WantOfMemory}
 use Rattle.ir_core.specs.Layout.{Size}
@@ -17,7 +18,7 @@ use Rattle.mem_model.specs.declared.step.Trap.{Trap}
 use Rattle.mem_model.specs.declared.step.Trap.TheVariants.{Unreachable, TooLarge}
 use Rattle.mem_model.specs.Thread.{Frame, Registers, ThreadState}
 use Rattle.mem_model.specs.Values.{width_of, value_word, operand, and_then}
-use Rattle.mem_model.specs.Next.{NextStep, Trapped, Callee, CallsInit, CallsDeinit, CallsFunction, CallsOther, callee_of, next_inst, next_frames, Next}
+use Rattle.mem_model.specs.Next.{NextStep, Trapped, Callee, CallsEntry, CallsFunction, CallsOther, callee_of, next_inst, next_in, next_frames, Next}
 use Rattle.thread_state.specs.declared.state.Frame.{Frame as FrameData}
 use Rattle.thread_state.specs.declared.state.ThreadState.{ThreadState as ThreadData}
 use Rattle.thread_state.specs.Seen.{code_seen, blocks_seen, frames_seen, place_seen, thread_seen, IsThread}
@@ -28,7 +29,8 @@ use Rattle.interp_local.specs.declared.steps.Own.{Own}
 use Rattle.interp_local.specs.declared.steps.Own.TheVariants.{Done as HasEnded}
 use Rattle.interp_local.specs.Operands.{registers, number, pointer, cell, or_unreachable}
 use Rattle.interp_local.specs.Actions.{first_function, function_of, arguments, gives, call_action, jump, action_of, TakesRoom, decided}
-use Rattle.interp_local.specs.Steps.{IsOwn, first_inst, inst_of, IsDefined, TakesMemory, InstTakes, FramesTake, StandsAtTaking, IsTried, IsSized, AreSized}
+use Rattle.interp_local.specs.Steps.{IsOwn, first_inst, inst_of, IsDefined, TakesMemory, InstTakes, FramesTake, StandsAtTaking, IsTried, IsServed, AreServed}
+use Rattle.interp_local.proofs.Begins.{FirstBegins, thread_begins}
 use Rattle.interp_local.proofs.Decides.{action_is}
 
 -- ---- where the innermost call stands
@@ -42,9 +44,9 @@ pub record At (m : Module) (s : ThreadData) : Type 0 where
   pub function_is : f.code.at.function ≡ function_of s
   pub place_is : inst_at m f.code.at ≡ inst_of m s
 
-at_by : (m : Module) (s : ThreadData) (fs : List FrameData) → reverse s.frames.items ≡ fs → (fs ≡ [] → ⊥) → At m s
-at_by m s [] e some = absurd (some refl)
-at_by m s (g ∷ outer) e some =
+at_by : (m : Module) (s : ThreadData) (fs : List FrameData) → reverse s.frames.items ≡ fs → FirstBegins fs → (fs ≡ [] → ⊥) → At m s
+at_by m s [] e begins some = absurd (some refl)
+at_by m s (g ∷ outer) e begins some =
     let t : ThreadState = thread_seen m s in
     let end : ℕ = length s.stack.items in
     let f : Frame = record { code = code_seen m outer g; blocks = blocks_seen s.own s.stack.items g.base end } in
@@ -54,7 +56,7 @@ at_by m s (g ∷ outer) e some =
       f = f;
       rest = rest;
       frames = frames;
-      next = ap (next_frames m t) frames ∙ ap (next_inst m t f rest) (sym (ap (first_inst m) e));
+      next = ap (next_frames m t) frames ∙ ap (next_in m t f rest (inst_at m f.code.at)) begins ∙ ap (next_inst m t f rest) (sym (ap (first_inst m) e));
       registers_are = sym (ap first_registers frames);
       function_is = sym (ap first_function e);
       place_is = sym (ap (first_inst m) e);
@@ -66,11 +68,11 @@ none_back xs e = sym (length-reverse xs) ∙ ap length e
 pub not_empty : (n k : ℕ) (b : Bool) → n ≡ k → b ≡ (n == 0) → b ≡ false → k ≡ 0 → ⊥
 not_empty n k b same e f g = grind (arith, nat_tests)
 
-pub at : (m : Module) (s : ThreadData) → (length s.frames.items ≡ 0 → ⊥) → At m s
-at m s some = at_by m s (reverse s.frames.items) refl (λ e. some (none_back s.frames.items e))
+pub at : (m : Module) (s : ThreadData) → AreServed m → IsThread m s → (length s.frames.items ≡ 0 → ⊥) → At m s
+at m s served is some = at_by m s (reverse s.frames.items) refl (thread_begins m s served is) (λ e. some (none_back s.frames.items e))
 
-pub at_inst : (m : Module) (s : ThreadData) (i : Inst) → inst_of m s ≡ Some i → At m s
-at_inst m s i is = at_by m s (reverse s.frames.items) refl (λ e. let none : first_inst m (reverse s.frames.items) ≡ None = ap (first_inst m) e in let f : ⊥ = cc in f)
+pub at_inst : (m : Module) (s : ThreadData) (i : Inst) → AreServed m → IsThread m s → inst_of m s ≡ Some i → At m s
+at_inst m s i served thread is = at_by m s (reverse s.frames.items) refl (thread_begins m s served thread) (λ e. let none : first_inst m (reverse s.frames.items) ≡ None = ap (first_inst m) e in let f : ⊥ = cc in f)
 
 pub ended : (m : Module) (s : ThreadData) → s.frames.items ≡ [] → IsOwn m s s (Next m (thread_seen m s)) (Ok HasEnded)
 ended m s none = subst (λ nx. IsOwn m s s nx (Ok HasEnded)) (sym (ap (λ fs. next_frames m (thread_seen m s) (frames_seen m s.own s.stack.items (length s.stack.items) (reverse fs))) none)) refl
@@ -78,7 +80,7 @@ ended m s none = subst (λ nx. IsOwn m s s nx (Ok HasEnded)) (sym (ap (λ fs. ne
 pub no_inst : (m : Module) (s : ThreadData) (a : At m s) → IsThread m s → inst_of m s ≡ None → IsOwn m s s (Next m (thread_seen m s)) (Err Unreachable)
 no_inst m s a thread none = subst (λ nx. IsOwn m s s nx (Err Unreachable)) (sym (a.next ∙ ap (next_inst m (thread_seen m s) a.f a.rest) none)) (refl, (thread, refl))
 
-pub next_decided : (m : Module) (s : ThreadData) (a : At m s) (i : Inst) (r : Result Action Trap) → inst_of m s ≡ Some i → IsSized m i.kind → r ≡ action_of m (function_of s) (registers m s) s.answers.init i.kind → decided m (thread_seen m s) a.f a.rest i.result (arguments i.kind) r ≡ Next m (thread_seen m s)
+pub next_decided : (m : Module) (s : ThreadData) (a : At m s) (i : Inst) (r : Result Action Trap) → inst_of m s ≡ Some i → IsServed m i.kind → r ≡ action_of m (function_of s) (registers m s) s.answers.init i.kind → decided m (thread_seen m s) a.f a.rest i.result (arguments i.kind) r ≡ Next m (thread_seen m s)
 next_decided m s a i r is served e =
     let t : ThreadState = thread_seen m s in
     ap (decided m t a.f a.rest i.result (arguments i.kind)) e
@@ -90,11 +92,11 @@ pub decided_trap : (m : Module) (s : ThreadData) (nx : NextStep) (e : Trap) (res
 decided_trap m s nx e result thread is same = subst (λ r. IsOwn m s s nx r) (sym same) (subst (λ x. IsOwn m s s x (Err e)) is (refl, (thread, refl)))
 
 -- the instruction at which the innermost call stands is served
-served_by : (m : Module) (fs : List FrameData) (i : Inst) → AreSized m → first_inst m fs ≡ Some i → IsSized m i.kind
+served_by : (m : Module) (fs : List FrameData) (i : Inst) → AreServed m → first_inst m fs ≡ Some i → IsServed m i.kind
 served_by m [] i uses e = let f : ⊥ = cc in absurd f
 served_by m (g ∷ outer) i uses e = uses.kinds (place_seen g) i e
 
-pub served : (m : Module) (s : ThreadData) (i : Inst) → AreSized m → inst_of m s ≡ Some i → IsSized m i.kind
+pub served : (m : Module) (s : ThreadData) (i : Inst) → AreServed m → inst_of m s ≡ Some i → IsServed m i.kind
 served m s i uses e = served_by m (reverse s.frames.items) i uses e
 
 -- ---- what takes room is an instruction that takes memory
@@ -114,8 +116,9 @@ p_jump : (W : Type 0) (m : Module) (k : ℕ) (to : Name) → OkTakes W (jump m k
 p_jump W m k to = p_then W (or_unreachable (place_in (labels m k) to)) _ (λ b t. absurd t)
 
 p_call : (init : ℕ) (c : Callee) → OkTakes (IsDefined c) (call_action init c)
-p_call init CallsInit = λ t. absurd t
-p_call init CallsDeinit = λ t. absurd t
+p_call init (CallsEntry TargetInit) = λ t. absurd t
+p_call init (CallsEntry TargetDeinit) = λ t. absurd t
+p_call init (CallsEntry r) = tt
 p_call init (CallsFunction k params) = λ t. tt
 p_call init CallsOther = tt
 

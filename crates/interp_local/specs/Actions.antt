@@ -7,6 +7,7 @@ use Rattle.ir_core.specs.declared.instructions.RmwOp.{RmwOp}
 use Rattle.ir_core.specs.declared.instructions.Kind.{Kind}
 use Rattle.ir_core.specs.declared.instructions.Kind.TheVariants.{Bin, ICmp, Cast, Select, Alloca, Load as LoadInst, Store as StoreInst, Rmw, Gep, Fence, Call, Br, CondBr, Switch, Ret}
 use Rattle.ir_core.specs.declared.module.Module.{Module}
+use Rattle.ir_core.specs.declared.rtl.Rtl.TheVariants.{TargetInit, TargetDeinit}
 use Rattle.ir_core.specs.FirstForm.{is_width}
 use Rattle.ir_core.specs.Places.{labels, place_in}
 use Rattle.ir_core.specs.Layout.{Size}
@@ -18,7 +19,7 @@ use Rattle.mem_model.specs.declared.step.Trap.TheVariants.{Unreachable, TooLarge
 use Rattle.mem_model.specs.Answers.{IsCell, IsOf}
 use Rattle.mem_model.specs.Thread.{Name, Registers, Frame, ThreadState, where_is}
 use Rattle.mem_model.specs.Values.{width_of, value_word, operand, and_then}
-use Rattle.mem_model.specs.Next.{NextStep, Local, Pending, Trapped, Deinit as DeinitEvent, goes_on, goes_past, loads, stores, updates, allocates, case_for, to_block, Callee, CallsInit, CallsDeinit, CallsFunction, CallsOther, defined_at, callee_of, next_call, returns}
+use Rattle.mem_model.specs.Next.{NextStep, Local, Pending, Trapped, Deinit as DeinitEvent, goes_on, goes_past, loads, stores, updates, allocates, case_for, to_block, Callee, CallsEntry, CallsFunction, CallsOther, defined_at, callee_of, next_call, returns}
 use Rattle.thread_state.specs.declared.state.Frame.{Frame as FrameData}
 use Rattle.thread_state.specs.declared.state.ThreadState.{ThreadState as ThreadData}
 use Rattle.interp_local.specs.declared.actions.Change.{Change}
@@ -44,8 +45,9 @@ abbrev pub gives : Result Word Trap → Result Action Trap
 gives found = and_then found (λ word. Ok (Gives word))
 
 abbrev pub call_action : ℕ → Callee → Result Action Trap
-call_action init CallsInit = Ok (Gives (Int init))
-call_action init CallsDeinit = Ok Deinit
+call_action init (CallsEntry TargetInit) = Ok (Gives (Int init))
+call_action init (CallsEntry TargetDeinit) = Ok Deinit
+call_action init (CallsEntry r) = Err Unreachable
 call_action init (CallsFunction k params) = Ok (Calls k)
 call_action init CallsOther = Err Unreachable
 

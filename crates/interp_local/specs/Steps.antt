@@ -1,6 +1,8 @@
 -- The step that a thread makes by itself, and what a call that makes it answers.
-use Rattle.std.specs.Prelude.{◌≡◌, ℕ, List, [], ◌∷◌, reverse, Option, Some, None, Result, Ok, Err}
+use Rattle.std.specs.Prelude.{◌≡◌, ℕ, List, [], ◌∷◌, reverse, false, Option, Some, None, Result, Ok, Err}
 use Rattle.ir_core.specs.declared.instructions.Inst.{Inst}
+use Rattle.ir_core.specs.declared.instructions.Typed.{Typed}
+use Rattle.ir_core.specs.declared.rtl.Rtl.TheVariants.{TargetInit, TargetDeinit}
 use Rattle.ir_core.specs.declared.instructions.Kind.{Kind}
 use Rattle.ir_core.specs.declared.instructions.Kind.TheVariants.{Alloca, Gep, Call}
 use Rattle.ir_core.specs.declared.module.Module.{Module}
@@ -8,11 +10,11 @@ use Rattle.ir_core.specs.declared.answers.Or.{Or}
 use Rattle.ir_core.specs.declared.answers.Or.TheVariants.{Refused, Memory as WantOfMemory}
 use Rattle.ir_core.specs.Layout.{WellFormed}
 use Rattle.ir_core.specs.Places.{Place, inst_at}
-use Rattle.mem_model.specs.declared.memory.Word.{Word}
 use Rattle.mem_model.specs.declared.step.Trap.{Trap}
 use Rattle.mem_model.specs.declared.memory.Ptr.{Ptr}
 use Rattle.mem_model.specs.Thread.{Name, Frame, ThreadState, Where, InStack, Elsewhere as ElsewhereAt}
-use Rattle.mem_model.specs.Next.{NextStep, Local, Pending, Done, Trapped, goes_on, goes_past, Callee, CallsFunction, callee_of, Next}
+use Rattle.mem_model.specs.Next.{NextStep, Local, Pending, Done, Trapped, Callee, CallsEntry, CallsFunction, callee_of, Next}
+use Rattle.mem_model.specs.Entries.{runs_loop}
 use Rattle.thread_state.specs.declared.state.Frame.{Frame as FrameData}
 use Rattle.thread_state.specs.declared.state.ThreadState.{ThreadState as ThreadData}
 use Rattle.thread_state.specs.Seen.{thread_seen, place_seen, IsThread, IsSeen}
@@ -49,11 +51,6 @@ pub record Knows (m : Module) (s : ThreadData) (x : Option Name) (register : Opt
   pub frames : (thread_seen m s).frames ≡ f ∷ rest
   pub place : IsPlaceOf (names_of m s) x register
 
--- behind a call, with its result or without one
-abbrev pub behind : ThreadState → Frame → List Frame → Option Name → Option Word → ThreadState
-behind t f rest back None = goes_past t f rest
-behind t f rest back (Some word) = goes_on t f rest back word
-
 -- ---- steps that may want memory
 
 abbrev pub IsDefined : Callee → Type 0
@@ -88,14 +85,23 @@ IsTried wants m old new nx (Err WantOfMemory) = IsSeen m new (thread_seen m old)
 abbrev pub IsNext : Module → ThreadData → ThreadData → Result Own (Or Trap) → Type 0
 IsNext m old new result = IsTried (StandsAtTaking m (thread_seen m old)) m old new (Next m (thread_seen m old)) result
 
--- ---- modules whose types have sizes
+-- ---- modules that are served
 
--- the type of a new block of the stack has a size, and so has the one that a getelementptr goes through
-abbrev pub IsSized : Module → Kind → Type 0
-IsSized m (Alloca ty align) = WellFormed m.types ty
-IsSized m (Gep inbounds ty base path) = WellFormed m.types ty
-IsSized m _ = Unit {0}
+-- the entry points that are run by now: init without the runtime's own loop, and deinit
+abbrev pub IsRun : List Typed → Callee → Type 0
+IsRun operands (CallsEntry TargetInit) = runs_loop operands ≡ false
+IsRun operands (CallsEntry TargetDeinit) = Unit {0}
+IsRun operands (CallsEntry r) = ⊥
+IsRun operands _ = Unit {0}
 
--- the types of which instructions need the size have one, as in every checked module
-pub record AreSized (m : Module) : Type 0 where
-  pub kinds : (p : Place) (i : Inst) → inst_at m p ≡ Some i → IsSized m i.kind
+-- the type of a new block of the stack has a size, and so has the one that a getelementptr goes through; a call is of a function or of
+-- such an entry point
+abbrev pub IsServed : Module → Kind → Type 0
+IsServed m (Alloca ty align) = WellFormed m.types ty
+IsServed m (Gep inbounds ty base path) = WellFormed m.types ty
+IsServed m (Call tail_word ret callee operands) = IsRun operands (callee_of m callee)
+IsServed m _ = Unit {0}
+
+-- each instruction is served
+pub record AreServed (m : Module) : Type 0 where
+  pub kinds : (p : Place) (i : Inst) → inst_at m p ≡ Some i → IsServed m i.kind

@@ -1,18 +1,17 @@
 //! What an instruction does, once its operands are read.
 ghost use Rattle.std.specs.Prelude.{◌≡◌, ℕ, IfOk, Some, Ok, Err, ◌==◌, if◌then◌else◌};
-ghost use Rattle.ir_core.specs.EntryPoints.{target_init, target_deinit};
 ghost use Rattle.ir_core.specs.Places.{function_place};
 ghost use Rattle.ir_core.specs.Layout.{WellFormed, Size};
-ghost use Rattle.mem_model.specs.Next.{defined_at, callee_of, is_case, case_for};
+ghost use Rattle.mem_model.specs.Next.{CallsEntry, defined_at, callee_of, is_case, case_for};
 ghost use Rattle.interp_local.specs.Operands.{AreFew, registers};
-ghost use Rattle.interp_local.specs.Steps.{IsSized};
+ghost use Rattle.interp_local.specs.Steps.{IsServed};
 ghost use Rattle.interp_local.specs.Actions.{IsAction, gives, action_of, call_action, jump, function_of, load_action, store_action, update_action, block_action, branch_action, switch_action, return_action};
 
 use crate::addresses::element;
 use crate::operands::{
     binary, cell, comparison, conversion, number, operand, pointer, selection, value_word, width_of,
 };
-use ir_core::{Case, Kind, Name, RmwOp, Ty, Typed, Value};
+use ir_core::{Case, Kind, Name, RmwOp, Rtl, Ty, Typed, Value};
 use ir_tables::Indexed;
 use mem_model::{Cell, Ptr, Trap, Word};
 use thread_state::ThreadState;
@@ -114,6 +113,18 @@ fn call_defined(m: &Indexed, name: &Name) -> Result<Action, Trap>
     }
 }
 
+/// A call of an entry point; those that aren't run are in no module that is served.
+fn call_entry(s: &ThreadState, entry: Rtl) -> Result<Action, Trap>
+    ensures value { result ≡ call_action s.now.answers.init (CallsEntry entry) }
+    ensures is { IfOk result IsAction }
+{
+    match entry {
+        Rtl::TargetInit => Ok(Action::Gives(Word::Int(u64::from(s.answers.init)))),
+        Rtl::TargetDeinit => Ok(Action::Deinit),
+        _ => Err(Trap::Unreachable),
+    }
+}
+
 /// A call.
 fn call(m: &Indexed, s: &ThreadState, callee: &Value) -> Result<Action, Trap>
     ensures value { result ≡ call_action s.now.answers.init (callee_of m.now callee.now) }
@@ -122,13 +133,10 @@ fn call(m: &Indexed, s: &ThreadState, callee: &Value) -> Result<Action, Trap>
     let Value::Global(name) = callee else {
         return Err(Trap::Unreachable);
     };
-    if name.as_slice() == b"__kmpc_target_init".as_slice() {
-        return Ok(Action::Gives(Word::Int(u64::from(s.answers.init))));
+    match Rtl::of(name) {
+        Some(entry) => call_entry(s, entry),
+        None => call_defined(m, name),
     }
-    if name.as_slice() == b"__kmpc_target_deinit".as_slice() {
-        return Ok(Action::Deinit);
-    }
-    call_defined(m, name)
 }
 
 /// A load.
@@ -249,7 +257,7 @@ fn give(found: Result<Word, Trap>) -> Result<Action, Trap>
 /// The trap of the first operand that can't be read, or of the operation.
 pub fn decide(m: &Indexed, s: &ThreadState, kind: &Kind) -> Result<Action, Trap>
     requires few { AreFew m.now }
-    requires sized { IsSized m.now kind.now }
+    requires served { IsServed m.now kind.now }
     ensures value { result ≡ action_of m.now (function_of s.now) (registers m.now s.now) s.now.answers.init kind.now }
     ensures is { IfOk result IsAction }
 {

@@ -14,7 +14,7 @@ ghost use Rattle.thread_state.specs.Moves.{index_of};
 ghost use Rattle.interp_local.specs.Operands.{AreFew, registers};
 ghost use Rattle.interp_local.specs.Actions as spec;
 ghost use Rattle.interp_local.specs.Calls.{IsBody, AreBound, put_words};
-ghost use Rattle.interp_local.specs.Steps.{IsTried, Knows, inst_of};
+ghost use Rattle.interp_local.specs.Steps.{AreServed, IsTried, Knows, inst_of};
 ghost use Rattle.interp_local.specs.Runs.{Tells};
 
 use crate::operands::value_word;
@@ -121,6 +121,7 @@ pub(crate) fn call(
 ) -> Result<Own, Or<Trap>>
     requires thread { IsThread m.now s.old }
     requires few { AreFew m.now }
+    requires served { AreServed m.now }
     requires stands { inst_of m.now s.old ≡ Some inst.now }
     ensures { (f : Frame) (rest : Listed Frame) → (thread_seen m.now s.old).frames ≡ f ∷ rest → IsTried (Unit {0}) m.now s.old s.new (next_call m.now (thread_seen m.now s.old) f rest inst.now.result (spec.arguments inst.now.kind) (defined_at m.now (Some place))) result }
 {

@@ -10,7 +10,7 @@ ghost use Rattle.mem_model.specs.Next.{Next, loads, stores, updates, returns};
 ghost use Rattle.thread_state.specs.Seen.{thread_seen, IsThread};
 ghost use Rattle.interp_local.specs.Operands.{AreFew};
 ghost use Rattle.interp_local.specs.Actions.{IsAction, IsChange, arguments, acted};
-ghost use Rattle.interp_local.specs.Steps.{AreSized, inst_of};
+ghost use Rattle.interp_local.specs.Steps.{AreServed, inst_of};
 ghost use Rattle.interp_local.specs.Runs.{Tells, IsRan, HasRunShort, is_went, pause_seen, tried};
 
 use crate::actions::{Action, Change, decide};
@@ -153,7 +153,7 @@ fn look_at(m: &Indexed, s: &ThreadState, inst: &Inst, action: Action) -> Stepped
 pub fn look(m: &Indexed, s: &ThreadState) -> Result<Own, Trap>
     requires thread { IsThread m.now s.now }
     requires few { AreFew m.now }
-    requires sized { AreSized m.now }
+    requires served { AreServed m.now }
     ensures { Tells (Next m.now (thread_seen m.now s.now)) result }
 {
     if s.frames.is_empty() {
@@ -211,7 +211,7 @@ pub fn local_run(
 ) -> Result<Ran, OutOfMemory>
     requires thread { IsThread m.now s.old }
     requires few { AreFew m.now }
-    requires sized { AreSized m.now }
+    requires served { AreServed m.now }
     ensures { MatchResult result (IsRan m.now s.old s.new limit) (λ e. HasRunShort m.now s.old s.new limit) }
 {
     let mut steps = 0;

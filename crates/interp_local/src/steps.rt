@@ -6,12 +6,12 @@ ghost use Rattle.mem_model.specs.Answers.{IsCell, IsOf};
 ghost use Rattle.ir_core.specs.declared.module.Module.{Module};
 ghost use Rattle.mem_model.specs.Thread.{Frame, InStack, where_is};
 ghost use Rattle.ir_core.specs.declared.instructions.Typed.{Typed};
-ghost use Rattle.mem_model.specs.Next.{loads, stores, updates, returns, result_of};
+ghost use Rattle.mem_model.specs.Next.{loads, stores, updates, goes_back, returns, result_of};
 ghost use Rattle.interp_local.specs.Operands.{AreFew};
 ghost use Rattle.interp_local.specs.Actions.{IsAction, IsChange, TakesRoom, arguments, acted};
 ghost use Rattle.thread_state.specs.Seen.{thread_seen, IsThread, IsSeen};
 ghost use Rattle.thread_state.specs.Moves.{names_of, index_of, IsPlaceOf};
-ghost use Rattle.interp_local.specs.Steps.{IsOwn, IsTried, IsNext, Knows, inst_of, part_seen, behind, AreSized};
+ghost use Rattle.interp_local.specs.Steps.{IsOwn, IsTried, IsNext, Knows, inst_of, part_seen, AreServed};
 
 use crate::actions::{Action, Change, decide};
 use crate::calls::{allocate, call};
@@ -184,7 +184,7 @@ fn update(s: &mut ThreadState, register: Option<usize>, at: Ptr, change: Change)
 /// Goes on in the innermost call behind the call at which it stands, with a result or without one.
 fn go_behind(m: &Indexed, s: &mut ThreadState, word: Option<Word>)
     requires { IsSome (inst_of m.now s.old) }
-    ensures { (f : Frame) (rest : List Frame) → IsThread m.now s.old → (thread_seen m.now s.old).frames ≡ f ∷ rest → IsSeen m.now s.new (behind (thread_seen m.now s.old) f rest (result_of (inst_of m.now s.old)) word) }
+    ensures { (f : Frame) (rest : List Frame) → IsThread m.now s.old → (thread_seen m.now s.old).frames ≡ f ∷ rest → IsSeen m.now s.new (goes_back (thread_seen m.now s.old) f rest (result_of (inst_of m.now s.old)) word) }
 {
     let Some(inst) = inst_at(m, s) else {
         unreachable!()
@@ -200,7 +200,8 @@ fn go_behind(m: &Indexed, s: &mut ThreadState, word: Option<Word>)
 
 /// Returns from the innermost call. The return from a thread's only call is an event.
 fn return_to(m: &Indexed, s: &mut ThreadState, word: Option<Word>) -> Own
-    requires { IsThread m.now s.old }
+    requires thread { IsThread m.now s.old }
+    requires served { AreServed m.now }
     ensures { (f : Frame) (rest : List Frame) → (thread_seen m.now s.old).frames ≡ f ∷ rest → IsOwn m.now s.old s.new (returns (thread_seen m.now s.old) rest f.code.back word) (Ok result) }
 {
     if s.frames.len() < 2 {
@@ -215,6 +216,7 @@ fn return_to(m: &Indexed, s: &mut ThreadState, word: Option<Word>) -> Own
 fn perform_own(m: &Indexed, s: &mut ThreadState, register: Option<usize>, action: Action) -> Stepped
     requires thread { IsThread m.now s.old }
     requires few { AreFew m.now }
+    requires served { AreServed m.now }
     requires action { IsAction action }
     requires own { TakesRoom action → ⊥ }
     requires stands { IsSome (inst_of m.now s.old) }
@@ -250,6 +252,7 @@ fn perform(
 ) -> Result<Own, Or<Trap>>
     requires thread { IsThread m.now s.old }
     requires few { AreFew m.now }
+    requires served { AreServed m.now }
     requires action { IsAction action }
     requires stands { inst_of m.now s.old ≡ Some inst.now }
     requires within { index_of s.old + 1 < 2 ^ 64 }
@@ -275,7 +278,7 @@ fn perform(
 pub fn next(alloc: Global, m: &Indexed, s: &mut ThreadState) -> Result<Own, Or<Trap>>
     requires thread { IsThread m.now s.old }
     requires few { AreFew m.now }
-    requires sized { AreSized m.now }
+    requires served { AreServed m.now }
     ensures { IsNext m.now s.old s.new result }
 {
     if s.frames.is_empty() {

@@ -1,7 +1,7 @@
 //! The steps of a schedule, one after another.
 ghost use Rattle.std.specs.Prelude.{◌≡◌, ◌++◌, ◌≤◌, ◌<◌, ◌^◌, List as Listed, length, Ok as OkOf, Err as ErrOf};
 ghost use Rattle.interp_local.specs.Operands.{AreFew};
-ghost use Rattle.interp_local.specs.Steps.{AreSized};
+ghost use Rattle.interp_local.specs.Steps.{AreServed};
 ghost use Rattle.interp.specs.Teams.{team_seen, AreThreads};
 ghost use Rattle.replay.specs.Turns.{Turn, turns, turns_from, replayed};
 ghost use Rattle.replay.specs.Replays.{TakesTurn, GoesOn, IsReplayed};
@@ -24,7 +24,7 @@ fn take_turn(
 ) -> Result<u32, Or<ScheduleFaultKind>>
     requires threads { AreThreads m.now team.old.threads.items }
     requires few { AreFew m.now }
-    requires sized { AreSized m.now }
+    requires served { AreServed m.now }
     ensures { TakesTurn m.now left thread team.old team.new result }
 {
     if left == 0 {
@@ -48,7 +48,7 @@ fn run_pair(
 ) -> Result<u32, Or<ScheduleFault>>
     requires threads { AreThreads m.now team.old.threads.items }
     requires few { AreFew m.now }
-    requires sized { AreSized m.now }
+    requires served { AreServed m.now }
     ensures { (rest : Listed Turn) → GoesOn m.now (replayed m.now bound (turns_from pair.thread line 1 pair.count ++ rest) (team_seen m.now team.old)) rest team.new result }
 {
     let mut left = bound;
@@ -82,7 +82,7 @@ pub fn replay(
 ) -> Result<(), Or<ScheduleFault>>
     requires threads { AreThreads m.now team.old.threads.items }
     requires few { AreFew m.now }
-    requires sized { AreSized m.now }
+    requires served { AreServed m.now }
     requires lines { length pairs.now < 2 ^ 31 }
     ensures { IsReplayed m.now (replayed m.now steps (turns 1 pairs.now) (team_seen m.now team.old)) team.new result }
 {

@@ -1,4 +1,4 @@
-use Rattle.std.proofs.Common.{◌≡◌, ◌≤◌, List, length, Option, Some, sym, ap, ◌∙◌, arith, slice_set}
+use Rattle.std.proofs.Common.{List, length, Option, Some, sym, ap, ◌∙◌, arith, slice_set}
 use Rattle.mem_model.specs.declared.memory.Word.{Word}
 use Rattle.interp_local.proofs.Entered.{put_more, put_past, put_length}
 use Rattle.interp_local.proofs.calls.put_word.Goals as goal

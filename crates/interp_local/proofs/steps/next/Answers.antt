@@ -6,8 +6,8 @@ use Rattle.interp_local.specs.Steps.{StandsAtTaking}
 use Rattle.interp_local.proofs.Nexts.{not_empty, at, served, next_decided, refused_trap, stands_taking, tried_as}
 use Rattle.interp_local.proofs.steps.next.Goals as goal
 
-pub decide-requires-clause-sized : goal.decide-requires-clause-sized
-decide-requires-clause-sized c = served c.args.m.now c.args.s.now c.in-Some.inst.now c.requires.sized (sym c.in-Some.ensures.value)
+pub decide-requires-clause-served : goal.decide-requires-clause-served
+decide-requires-clause-served c = served c.args.m.now c.args.s.now c.in-Some.inst.now c.requires.served (sym c.in-Some.ensures.value)
 
 pub returns-in-Err : goal.returns-in-Err
 returns-in-Err c =
@@ -15,9 +15,9 @@ returns-in-Err c =
     let s = c.args.s.now in
     let i = c.in-Some.inst.now in
     let is = sym c.in-Some.ensures.value in
-    let a = at m s (not_empty _ _ _ s.frames.ok.0 c.is_empty.ensures c.if-is_empty.false) in
+    let a = at m s c.requires.served c.requires.thread (not_empty _ _ _ s.frames.ok.0 c.is_empty.ensures c.if-is_empty.false) in
     refused_trap (StandsAtTaking m (thread_seen m s)) m s (Next m (thread_seen m s)) c.in-Err.trap c.requires.thread
-    (next_decided m s a i (Err c.in-Err.trap) is (served m s i c.requires.sized is) (sym c.in-Err.is ∙ c.decide.ensures.value))
+    (next_decided m s a i (Err c.in-Err.trap) is (served m s i c.requires.served is) (sym c.in-Err.is ∙ c.decide.ensures.value))
 
 pub returns-in-Ok : goal.returns-in-Ok
 returns-in-Ok c =
@@ -25,9 +25,9 @@ returns-in-Ok c =
     let s = c.args.s.now in
     let i = c.in-Some.inst.now in
     let is = sym c.in-Some.ensures.value in
-    let a = at m s (not_empty _ _ _ s.frames.ok.0 c.is_empty.ensures c.if-is_empty.false) in
+    let a = at m s c.requires.served c.requires.thread (not_empty _ _ _ s.frames.ok.0 c.is_empty.ensures c.if-is_empty.false) in
     let decided = sym c.in-Ok.is ∙ c.decide.ensures.value in
     tried_as (TakesRoom c.in-Ok.action) (StandsAtTaking m (thread_seen m s)) m s c.perform.new.s _ (Next m (thread_seen m s)) c.perform.result
     (stands_taking m s a i c.in-Ok.action is decided)
-    (next_decided m s a i (Ok c.in-Ok.action) is (served m s i c.requires.sized is) decided)
+    (next_decided m s a i (Ok c.in-Ok.action) is (served m s i c.requires.served is) decided)
     (c.perform.ensures a.f a.rest a.frames)
