@@ -21,17 +21,19 @@ use Rattle.mem_model.specs.Values.{updated}
 use Rattle.mem_model.specs.Update.{Updated, update_number, update_at, Update}
 use Rattle.mem_model.specs.Answers.{IsDone, only_trap}
 use Rattle.mem_model.specs.Thread.{Frame, ThreadState, where_is, given_of, find_in, put_in, load_own, store_own}
-use Rattle.mem_model.specs.Next.{NextStep, Local, Pending, Done, Trapped, with_found, with_number, with_frames, code_on, loads, stores, updates, Event, Does, Deinit, Leaves, Loads, Stores, Updates, Next, line_at}
+use Rattle.mem_model.specs.Next.{NextStep, Local, Pending, Done, Trapped, with_found, with_number, with_frames, code_on, loads, stores, updates, Event, Does, Deinit, Forks, Arrives, AsksForWork, Leaves, Loads, Stores, Updates, Next, line_at}
+use Rattle.mem_model.specs.Work.{given_work}
+use Rattle.mem_model.specs.declared.step.Barrier.TheVariants.{Team as TeamBarrier}
 use Rattle.mem_model.specs.Do.{Effect, Do, stored}
 use Rattle.mem_model.proofs.Runs.{some_injective}
 use Rattle.team_model.specs.declared.Stand.TheVariants.{Runs, Ended as Gone}
-use Rattle.team_model.specs.Team.{TeamShared, Team, happens, acts, by_next, by_thread, by_stand, unless_trapped, TeamStep}
+use Rattle.team_model.specs.Team.{TeamShared, Team, opened, takes_work, happens, acts, by_next, by_thread, by_stand, unless_trapped, TeamStep}
 use Rattle.thread_state.specs.declared.state.ThreadState.{ThreadState as ThreadData}
 use Rattle.thread_state.specs.Seen.{thread_seen, IsThread}
 use Rattle.interp.specs.declared.shared.TeamShared.{TeamShared as SharedData}
 use Rattle.interp.specs.declared.shared.Answer.{Answer}
 use Rattle.interp.specs.declared.shared.Answer.TheVariants.{Trapped as TrapAnswer}
-use Rattle.interp.specs.Events.{shared_seen, by_effect, made, IsAnswer, IsPending, IsUpdated, Makes}
+use Rattle.interp.specs.Events.{shared_seen, by_effect, by_work, made, IsAnswer, IsPending, IsUpdated, Makes}
 
 -- ---- stores that trap
 
@@ -49,7 +51,7 @@ not_stored m n line sh new s at cell given trap answer memory is done new_is lin
       thread = is;
       shared =
           ap shared_seen new_is
-          ∙ (λ i. record (shared_seen sh) { common = record { memory = p.1 i; prints = sh.prints }; trapped = Some (record { thread = n; line = line_is i; trap = trap }) })
+          ∙ (λ i. record (shared_seen sh) { common = record { memory = p.1 i; heaps = sh.heaps; prints = sh.prints }; trapped = Some (record { thread = n; line = line_is i; trap = trap }) })
           ∙ sym (ap (λ q. q.0) fails);
       state = sym (ap (λ q. q.1) fails);
       answer_is = subst (λ a. IsAnswer new.trapped a) (sym answer_is) (subst (λ o. IsAnswer o (TrapAnswer trap)) (sym (ap (λ (z : SharedData). z.trapped) new_is)) refl);
@@ -190,10 +192,17 @@ acts_is : (m : Module) (team : Team) (n : ℕ) (t : ThreadState) (r : Result Eff
 acts_is m team n t (Err trap) there = λ i. record { shared = (by_effect m team.shared n t (Err trap)).0; threads = sym (set_same team.threads n t there) i }
 acts_is m team n t (Ok effect) there = refl
 
+takes_is : (m : Module) (team : Team) (n : ℕ) (t : ThreadState) (r : Result ThreadState Trap) → slice_get team.threads n ≡ Some t → takes_work m team n t r ≡ with_made team n (by_work m team.shared n t r)
+takes_is m team n t (Err trap) there = λ i. record { shared = (by_work m team.shared n t (Err trap)).0; threads = sym (set_same team.threads n t there) i }
+takes_is m team n t (Ok u) there = refl
+
 happens_is : (m : Module) (team : Team) (n : ℕ) (t : ThreadState) (e : Event) → slice_get team.threads n ≡ Some t → happens m team n t e ≡ with_made team n (made m team.shared n t e)
 happens_is m team n t (Does action) there = acts_is m team n t (Do action team.shared.common) there
 happens_is m team n t Deinit there = refl
-happens_is m team n t Leaves there = λ i. record { shared = record team.shared { stands = slice_set team.shared.stands n Gone }; threads = sym (set_same team.threads n t there) i }
+happens_is m team n t (Forks function wrapper ps) there = refl
+happens_is m team n t (Arrives kind phase) there = refl
+happens_is m team n t AsksForWork there = takes_is m team n t (given_work m t team.shared.slot) there
+happens_is m team n t Leaves there = λ i. record { shared = record team.shared { stands = opened TeamBarrier 0 (slice_set team.shared.stands n Gone) }; threads = sym (set_same team.threads n t there) i }
 
 pub team_step : (m : Module) (n : ℕ) (sh sh' : TeamShared) (t t' : ThreadState) (e : Event) → Next m t ≡ Pending e → sh.trapped ≡ None → slice_get sh.stands n ≡ Some Runs → sh' ≡ (made m sh n t e).0 → t' ≡ (made m sh n t e).1 →
     (team : Team) → team.shared ≡ sh → slice_get team.threads n ≡ Some t → TeamStep m team n ≡ Some (record { shared = sh'; threads = slice_set team.threads n t' })

@@ -1,3 +1,4 @@
 pub mod Advance
 pub mod Happens
 pub mod Started
+pub mod Mapped

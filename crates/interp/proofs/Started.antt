@@ -15,14 +15,15 @@ use Rattle.mem_model.specs.declared.memory.BlockName.TheVariants.{Arg as ArgBloc
 use Rattle.mem_model.specs.declared.memory.Byte.{Byte}
 use Rattle.mem_model.specs.declared.memory.Word.{Word}
 use Rattle.mem_model.specs.Memory.{Memory, no_blocks, with_block}
-use Rattle.mem_model.specs.Thread.{Registers, Answers, ThreadState, bound}
+use Rattle.mem_model.specs.declared.phase.Phase.TheVariants.{Begins}
+use Rattle.mem_model.specs.Thread.{Registers, ThreadState, bound}
 use Rattle.mem_model.specs.Next.{with_frames}
 use Rattle.mem_model.specs.Globals.{contents, with_globals}
-use Rattle.mem_model.specs.Launching.{arg_word, arg_words, params_of, first_registers, thread_at, first_thread, with_buffers, first_memory, first_common}
+use Rattle.mem_model.specs.Launching.{arg_word, arg_words, params_of, first_registers, Role, thread_at, first_thread, with_buffers, first_memory, first_common}
 use Rattle.mem_model.proofs.BlockLaws.{header_apart}
 use Rattle.mem_model.proofs.Runs.{some_injective}
 use Rattle.team_model.specs.declared.Stand.TheVariants.{Runs}
-use Rattle.team_model.specs.Team.{TeamShared, Team, worker_answers, main_answers, with_captures, threads_from, first_threads, runs_at_first, started}
+use Rattle.team_model.specs.Team.{TeamShared, Team, worker, main_thread, with_captures, threads_from, first_threads, runs_at_first, started}
 use Rattle.thread_state.specs.declared.state.StackBlock.{StackBlock}
 use Rattle.thread_state.specs.declared.state.ThreadState.{ThreadState as ThreadData}
 use Rattle.thread_state.specs.Seen.{registers_seen, back_seen, frames_seen, answers_seen, thread_seen, AreFrames, AreBlocks, IsThread, IsSeen}
@@ -33,7 +34,7 @@ use Rattle.interp.specs.declared.shared.TeamShared.{TeamShared as SharedData}
 use Rattle.interp.specs.declared.team.Team.{Team as TeamData}
 use Rattle.interp.specs.Events.{shared_seen}
 use Rattle.interp.specs.Teams.{team_seen, AreThreads}
-use Rattle.interp.specs.Starts.{AreSeen, kernel_values, numbered_answers, first_shared}
+use Rattle.interp.specs.Starts.{AreSeen, kernel_values, numbered_thread, first_shared}
 
 -- ---- the capture area is new
 
@@ -127,24 +128,27 @@ idle_thread m s frames stack = (
 )
 
 module _ (m : Module) (l : Launch) (s : ThreadData) (counter : s.counter ≡ 0) (frames : s.frames.items ≡ []) where
+  abbrev as_role : Role
+  as_role = record { own = s.own; size = s.size; enters = s.enters }
+
   uncalled : (thread_seen m s).frames ≡ []
   uncalled = ap (λ fs. frames_seen m s.own s.stack.items (length s.stack.items) (reverse fs)) frames
 
-  pub idle_seen : s.stack.items ≡ [] → function_place m l.kernel ≡ None → IsSeen m s (first_thread m l s.own (answers_seen s.answers))
+  pub idle_seen : s.stack.items ≡ [] → function_place m l.kernel ≡ None → IsSeen m s (first_thread m l as_role (answers_seen s.answers))
   idle_seen stack unnamed = (
     idle_thread m s frames stack,
-    (λ i. record { own = s.own; counter = counter i; frames = uncalled i; answers = answers_seen s.answers })
-        ∙ sym (ap (thread_at m l s.own (answers_seen s.answers)) unnamed),
+    (λ i. record { own = s.own; size = s.size; enters = s.enters; counter = counter i; frames = uncalled i; answers = answers_seen s.answers })
+        ∙ sym (ap (thread_at m l as_role (answers_seen s.answers)) unnamed),
   )
 
-  pub begun_seen : (k : ℕ) (new : ThreadData) (values : List (Option Word)) → function_place m l.kernel ≡ Some k → values ≡ kernel_values m l k → IsSeen m new (with_frames (thread_seen m s) (entered m k values s ∷ (thread_seen m s).frames)) → IsSeen m new (first_thread m l s.own (answers_seen s.answers))
+  pub begun_seen : (k : ℕ) (new : ThreadData) (values : List (Option Word)) → function_place m l.kernel ≡ Some k → values ≡ kernel_values m l k → IsSeen m new (with_frames (thread_seen m s) (entered m k values s ∷ (thread_seen m s).frames)) → IsSeen m new (first_thread m l as_role (answers_seen s.answers))
   begun_seen k new values place are seen =
       let regs : registers_seen (register_names m k) values ≡ first_registers m k l = ap (registers_seen (register_names m k)) are ∙ registers_are (slice_get m.functions k) (arg_words 0 l.args) in
       let back : back_seen m (reverse s.frames.items) ≡ None = ap (λ fs. back_seen m (reverse fs)) frames in (
         seen.0,
         seen.1
-            ∙ (λ i. record { own = s.own; counter = counter i; frames = record { code = record { at = record { function = k; block = 0; index = 0 }; registers = regs i; back = back i }; blocks = [] } ∷ uncalled i; answers = answers_seen s.answers })
-            ∙ sym (ap (thread_at m l s.own (answers_seen s.answers)) place),
+            ∙ (λ i. record { own = s.own; size = s.size; enters = s.enters; counter = counter i; frames = record { code = record { at = record { function = k; block = 0; index = 0 }; phase = Begins; registers = regs i; back = back i }; blocks = [] } ∷ uncalled i; answers = answers_seen s.answers })
+            ∙ sym (ap (thread_at m l as_role (answers_seen s.answers)) place),
       )
 
 -- ---- the threads, one after another
@@ -152,10 +156,9 @@ module _ (m : Module) (l : Launch) (s : ThreadData) (counter : s.counter ≡ 0) 
 pub no_threads : (m : Module) (ss : List ThreadData) → ss ≡ [] → AreSeen m ss []
 no_threads m ss none = (λ i s e. absurd (nowhere ss i s none e), ap (map (thread_seen m)) none)
 
-thread_after : (m : Module) (l : Launch) (answers : ℕ → Answers) (t n k : ℕ) → k ≡ t + n → threads_from m l answers t (n + 1) ≡ threads_from m l answers t n ++ first_thread m l k (answers k) ∷ []
-thread_after m l answers t zero k e = let same : t ≡ k = omega arith in λ i. first_thread m l (same i) (answers (same i)) ∷ []
-thread_after m l answers t (suc n) k e =
-    let next : suc n + 1 ≡ suc (n + 1) = omega arith in ap (λ j. threads_from m l answers t j) next ∙ ap (λ us. first_thread m l t (answers t) ∷ us) (thread_after m l answers (t + 1) n k (omega arith))
+thread_after : (thread : ℕ → ThreadState) (t n k : ℕ) → k ≡ t + n → threads_from thread t (n + 1) ≡ threads_from thread t n ++ thread k ∷ []
+thread_after thread t zero k e = let same : t ≡ k = omega arith in λ i. thread (same i) ∷ []
+thread_after thread t (suc n) k e = let next : suc n + 1 ≡ suc (n + 1) = omega arith in ap (λ j. threads_from thread t j) next ∙ ap (λ us. thread t ∷ us) (thread_after thread (t + 1) n k (omega arith))
 
 pub thread_more : (m : Module) (ss new : List ThreadData) (s : ThreadData) (ts : List ThreadState) (t : ThreadState) → AreSeen m ss ts → IsSeen m s t → new ≡ ss ++ s ∷ [] → AreSeen m new (ts ++ t ∷ [])
 thread_more m ss new s ts t are is new_is = subst (λ us. AreSeen m us (ts ++ t ∷ [])) (sym new_is) (and_one ss are.0, map-append (thread_seen m) ss (s ∷ []) ∙ (λ i. are.1 i ++ is.1 i ∷ []))
@@ -166,14 +169,14 @@ thread_more m ss new s ts t are is new_is = subst (λ us. AreSeen m us (ts ++ t 
     and_one (v ∷ us) all zero u e = all zero u e
     and_one (v ∷ us) all (suc i) u e = and_one us (λ j w f. all (suc j) w f) i u e
 
-pub numbered_more : (m : Module) (l : Launch) (answers : ℕ → Answers) (n : ℕ) (ss new : List ThreadData) (s : ThreadData) → AreSeen m ss (threads_from m l answers 0 n) → IsSeen m s (first_thread m l n (answers n)) → new ≡ ss ++ s ∷ [] → AreSeen m new (threads_from m l answers 0 (n + 1))
-numbered_more m l answers n ss new s are is new_is = subst (AreSeen m new) (sym (thread_after m l answers 0 n n (omega arith))) (thread_more m ss new s (threads_from m l answers 0 n) (first_thread m l n (answers n)) are is new_is)
+pub numbered_more : (m : Module) (thread : ℕ → ThreadState) (n : ℕ) (ss new : List ThreadData) (s : ThreadData) → AreSeen m ss (threads_from thread 0 n) → IsSeen m s (thread n) → new ≡ ss ++ s ∷ [] → AreSeen m new (threads_from thread 0 (n + 1))
+numbered_more m thread n ss new s are is new_is = subst (AreSeen m new) (sym (thread_after thread 0 n n (omega arith))) (thread_more m ss new s (threads_from thread 0 n) (thread n) are is new_is)
 
-pub with_main : (m : Module) (l : Launch) (spmd : Bool) (ss new : List ThreadData) (s : ThreadData) → AreSeen m ss (threads_from m l (numbered_answers l spmd) 0 l.threads) → spmd ≡ false → IsSeen m s (first_thread m l l.threads main_answers) → new ≡ ss ++ s ∷ [] → AreSeen m new (first_threads m l spmd)
+pub with_main : (m : Module) (l : Launch) (spmd : Bool) (ss new : List ThreadData) (s : ThreadData) → AreSeen m ss (threads_from (numbered_thread m l spmd) 0 l.threads) → spmd ≡ false → IsSeen m s (main_thread m l) → new ≡ ss ++ s ∷ [] → AreSeen m new (first_threads m l spmd)
 with_main m l true ss new s are e is new_is = let f : ⊥ = cc in absurd f
-with_main m l false ss new s are e is new_is = thread_more m ss new s (threads_from m l (worker_answers l) 0 l.threads) (first_thread m l l.threads main_answers) are is new_is
+with_main m l false ss new s are e is new_is = thread_more m ss new s (threads_from (worker m l) 0 l.threads) (main_thread m l) are is new_is
 
-pub all_alike : (m : Module) (l : Launch) (spmd : Bool) (ss new : List ThreadData) → AreSeen m ss (threads_from m l (numbered_answers l spmd) 0 l.threads) → spmd ≡ true → new ≡ ss → AreSeen m new (first_threads m l spmd)
+pub all_alike : (m : Module) (l : Launch) (spmd : Bool) (ss new : List ThreadData) → AreSeen m ss (threads_from (numbered_thread m l spmd) 0 l.threads) → spmd ≡ true → new ≡ ss → AreSeen m new (first_threads m l spmd)
 all_alike m l true ss new are e new_is = subst (λ us. AreSeen m us (first_threads m l true)) (sym new_is) are
 all_alike m l false ss new are e new_is = let f : ⊥ = cc in absurd f
 
@@ -187,5 +190,5 @@ pub team_started : (m : Module) (l : Launch) (t : TeamData) (memory : Memory) (c
 team_started m l t memory count ts shared memory_is count_is are =
     let counted : count ≡ length ts = count_is ∙ sym (length-map t.threads.items (thread_seen m)) ∙ ap (λ (us : List ThreadState). length us) are.1 in
     let stands = ap (λ n. replicate n Runs) counted ∙ all_run ts in
-    let seen : shared_seen t.shared ≡ (started m l ts).shared = shared ∙ (λ i. record { common = first_common (memory_is i); heaps = 0; stands = stands i; slot = None; trapped = None }) in
+    let seen : shared_seen t.shared ≡ (started m l ts).shared = shared ∙ (λ i. record { common = first_common (memory_is i); stands = stands i; slot = None; trapped = None }) in
     λ i. record { shared = seen i; threads = are.1 i }

@@ -4,13 +4,16 @@ use Rattle.ir_core.specs.declared.module.Module.{Module}
 use Rattle.ir_core.specs.Places.{Name, inst_at}
 use Rattle.mem_model.specs.declared.step.Trap.{Trap}
 use Rattle.mem_model.specs.Thread.{Frame, ThreadState}
-use Rattle.mem_model.specs.Next.{Event, Does, Deinit, Leaves, NextStep, Pending, resumed, result_of, line_at}
+use Rattle.mem_model.specs.Next.{Event, Does, Deinit, Forks, Arrives, AsksForWork, Leaves, NextStep, Pending, resumed, arrived, result_of, line_at}
+use Rattle.mem_model.specs.Work.{given_work}
 use Rattle.mem_model.specs.Do.{Effect, Do}
 use Rattle.mem_model.specs.Memory.{Memory}
 use Rattle.mem_model.specs.Update.{Updated}
-use Rattle.team_model.specs.declared.Stand.TheVariants.{Ended as Gone}
+use Rattle.mem_model.specs.declared.phase.Phase.TheVariants.{Published}
+use Rattle.mem_model.specs.declared.step.Barrier.TheVariants.{Team as TeamBarrier}
+use Rattle.team_model.specs.declared.Stand.TheVariants.{Waits, Ended as Gone}
 use Rattle.team_model.specs.declared.Trapping.{Trapping}
-use Rattle.team_model.specs.Team.{TeamShared, Team, slot_after_deinit, TeamStep}
+use Rattle.team_model.specs.Team.{TeamShared, Team, published, opened, slot_after_deinit, TeamStep}
 use Rattle.thread_state.specs.declared.state.ThreadState.{ThreadState as ThreadData}
 use Rattle.thread_state.specs.Seen.{thread_seen, IsThread}
 use Rattle.interp_local.specs.Steps.{Knows}
@@ -21,7 +24,7 @@ use Rattle.interp.specs.declared.events.Here.{Here}
 
 -- the history is no part of what threads share in the team meaning
 abbrev pub shared_seen : SharedData → TeamShared
-shared_seen sh = record { common = record { memory = sh.memory; prints = sh.prints }; heaps = sh.heaps; stands = sh.stands; slot = sh.slot; trapped = sh.trapped }
+shared_seen sh = record { common = record { memory = sh.memory; heaps = sh.heaps; prints = sh.prints }; stands = sh.stands; slot = sh.slot; trapped = sh.trapped }
 
 -- ---- an event of thread n
 
@@ -29,11 +32,18 @@ abbrev pub by_effect : Module → TeamShared → ℕ → ThreadState → Result 
 by_effect m sh n t (Err trap) = (record sh { trapped = Some (record { thread = n; line = line_at m t; trap = trap }) }, t)
 by_effect m sh n t (Ok effect) = (record sh { common = effect.common }, resumed m t effect.answer)
 
+abbrev pub by_work : Module → TeamShared → ℕ → ThreadState → Result ThreadState Trap → TeamShared × ThreadState
+by_work m sh n t (Err trap) = (record sh { trapped = Some (record { thread = n; line = line_at m t; trap = trap }) }, t)
+by_work m sh n t (Ok u) = (sh, u)
+
 -- what is shared and the thread behind an event
 abbrev pub made : Module → TeamShared → ℕ → ThreadState → Event → TeamShared × ThreadState
 made m sh n t (Does action) = by_effect m sh n t (Do action sh.common)
 made m sh n t Deinit = (record sh { slot = slot_after_deinit t sh.slot }, resumed m t None)
-made m sh n t Leaves = (record sh { stands = slice_set sh.stands n Gone }, t)
+made m sh n t (Forks function wrapper ps) = (record sh { common = record sh.common { memory = published 0 ps sh.common.memory }; slot = Some wrapper }, arrived t (Some Published))
+made m sh n t (Arrives kind phase) = (record sh { stands = opened kind t.answers.count (slice_set sh.stands n (Waits kind)) }, arrived t phase)
+made m sh n t AsksForWork = by_work m sh n t (given_work m t sh.slot)
+made m sh n t Leaves = (record sh { stands = opened TeamBarrier 0 (slice_set sh.stands n Gone) }, t)
 
 abbrev pub IsAnswer : Option Trapping → Answer → Type 0
 IsAnswer None Went = Unit {0}

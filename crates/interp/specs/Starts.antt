@@ -5,10 +5,10 @@ use Rattle.ir_core.specs.Places.{register_names}
 use Rattle.mem_model.specs.declared.launch.Launch.{Launch}
 use Rattle.mem_model.specs.declared.memory.Word.{Word}
 use Rattle.mem_model.specs.Memory.{Memory}
-use Rattle.mem_model.specs.Thread.{Answers, ThreadState}
+use Rattle.mem_model.specs.Thread.{ThreadState}
 use Rattle.mem_model.specs.Launching.{params_of, arg_words, first_common}
 use Rattle.team_model.specs.declared.Stand.TheVariants.{Runs}
-use Rattle.team_model.specs.Team.{TeamShared, worker_answers, spmd_answers}
+use Rattle.team_model.specs.Team.{TeamShared, worker, spmd_thread}
 use Rattle.thread_state.specs.declared.state.ThreadState.{ThreadState as ThreadData}
 use Rattle.thread_state.specs.Seen.{thread_seen}
 use Rattle.interp_local.specs.Calls.{put_words}
@@ -22,11 +22,11 @@ AreSeen m ss ts = AreThreads m ss × (map (thread_seen m) ss ≡ ts)
 abbrev pub kernel_values : Module → Launch → ℕ → List (Option Word)
 kernel_values m l k = put_words (length (params_of (slice_get m.functions k))) (arg_words 0 l.args) (replicate (length (register_names m k)) None)
 
--- what the entry points answer to a thread of an SPMD kernel, or to a worker of a generic one
-abbrev pub numbered_answers : Launch → Bool → ℕ → Answers
-numbered_answers l true = spmd_answers l
-numbered_answers l false = worker_answers l
+-- a thread of an SPMD kernel, or a worker of a generic one
+abbrev pub numbered_thread : Module → Launch → Bool → ℕ → ThreadState
+numbered_thread m l true = spmd_thread m l
+numbered_thread m l false = worker m l
 
 -- what so many threads share before their first step
 abbrev pub first_shared : Memory → ℕ → TeamShared
-first_shared memory count = record { common = first_common memory; heaps = 0; stands = replicate count Runs; slot = None; trapped = None }
+first_shared memory count = record { common = first_common memory; stands = replicate count Runs; slot = None; trapped = None }

@@ -17,12 +17,13 @@ ghost use Rattle.interp_local.specs.Actions.{IsAction, IsChange, acted};
 ghost use Rattle.interp_local.specs.Steps.{AreServed};
 ghost use Rattle.interp.specs.Events.{IsHere, IsPending, IsUpdated, Makes, HasHappened};
 
+use crate::barriers::open;
 use crate::shared::{Answer, TeamShared};
 use interp_local::{Action, Change, decide, inst_at, result_place};
 use ir_core::OutOfMemory;
 use ir_tables::Indexed;
 use mem_model::{Cell, Memory, Ptr, Trap, Word, updated};
-use team_model::{Pair, Stand, Trapping};
+use team_model::{Barrier, Pair, Stand, Trapping};
 use thread_state::ThreadState;
 
 /// Which thread makes an event, the line of its instruction, and the register that takes a result.
@@ -130,13 +131,14 @@ fn deinit(sh: &mut TeamShared, s: &mut ThreadState) -> Answer
     Answer::Went
 }
 
-/// Ends a thread.
+/// Ends a thread, which may complete the team's barrier.
 fn leave(sh: &mut TeamShared, thread: u32) -> Answer
     requires there { thread < length sh.old.stands }
     requires runs { sh.old.trapped ≡ None }
     ensures { (m : Module) (s : ThreadData) → IsThread m s → Makes m thread sh.old sh.new s s Leaves result }
 {
     sh.stands.set(thread as usize, Stand::Ended);
+    open(&mut sh.stands, Barrier::Team, 0);
     Answer::Went
 }
 

@@ -1,9 +1,10 @@
 //! A team of machine threads as code, step by step, as the team meaning has it.
 //!
-//! `shared` is what threads share, `events` makes a thread's pending event,
+//! `shared` is what threads share, `barriers` opens its barriers, `events` makes a thread's pending event,
 //! `start` makes the first state of a team, and `team` steps it.
 #![tactic(auto)]
 
+mod barriers;
 mod events;
 mod shared;
 mod start;

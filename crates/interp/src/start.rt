@@ -149,53 +149,16 @@ fn first_shared(alloc: Global, memory: Memory, threads: usize) -> Result<TeamSha
     })
 }
 
-/// What a worker of a generic kernel is answered: its number, and from `__kmpc_target_init` too.
-fn worker_answers(l: &Launch, number: u32) -> Answers
-    ensures { answers_seen result ≡ spec.worker_answers l.now number }
+/// What a thread is answered before its first step: this number from `__kmpc_target_init`, and this mode bit.
+fn answers_at(init: u32, spmd: u32) -> Answers
+    ensures { answers_seen result ≡ spec.answers_at init spmd }
 {
     Answers {
-        init: number,
-        number,
-        count: l.threads,
-        level: 0,
-        spmd: 0,
-    }
-}
-
-/// What the main thread of a generic kernel is answered; as it runs user code, -1 from `__kmpc_target_init`.
-fn main_answers() -> Answers
-    ensures { answers_seen result ≡ spec.main_answers }
-{
-    Answers {
-        init: u32::MAX,
+        init,
         number: 0,
         count: 1,
         level: 0,
-        spmd: 0,
-    }
-}
-
-/// What a thread of an SPMD kernel is answered; as it runs user code, -1 from `__kmpc_target_init`.
-fn spmd_answers(l: &Launch, number: u32) -> Answers
-    ensures { answers_seen result ≡ spec.spmd_answers l.now number }
-{
-    Answers {
-        init: u32::MAX,
-        number,
-        count: l.threads,
-        level: 0,
-        spmd: 1,
-    }
-}
-
-/// What a thread of an SPMD kernel or a worker of a generic one is answered.
-fn numbered_answers(l: &Launch, spmd: bool, number: u32) -> Answers
-    ensures { answers_seen result ≡ starts.numbered_answers l.now spmd number }
-{
-    if spmd {
-        spmd_answers(l, number)
-    } else {
-        worker_answers(l, number)
+        spmd,
     }
 }
 
@@ -253,13 +216,16 @@ fn first_thread(
     m: &Indexed,
     l: &Launch,
     own: u32,
+    enters: bool,
     answers: Answers,
 ) -> Result<ThreadState, OutOfMemory>
     requires few { length l.now.args ≤ 2 ^ 32 }
-    ensures { IfOk result (λ s. IsSeen m.now s (launching.first_thread m.now l.now own (answers_seen answers))) }
+    ensures { IfOk result (λ s. IsSeen m.now s (launching.first_thread m.now l.now (spec.role l.now enters own) (answers_seen answers))) }
 {
     let mut s = ThreadState {
         own,
+        size: l.threads,
+        enters,
         counter: 0,
         frames: Vec::new(alloc),
         stack: Vec::new(alloc),
@@ -284,6 +250,35 @@ fn add(threads: &mut Vec<ThreadState>, s: ThreadState) -> Result<(), OutOfMemory
     }
 }
 
+/// What `__kmpc_target_init` answers to a thread that runs user code: -1.
+const USER_CODE: u32 = 4_294_967_295;
+
+/// A thread of an SPMD kernel, which enters the regions of its forks itself, or a worker of a generic one.
+fn numbered_thread(
+    alloc: Global,
+    m: &Indexed,
+    l: &Launch,
+    spmd: bool,
+    number: u32,
+) -> Result<ThreadState, OutOfMemory>
+    requires few { length l.now.args ≤ 2 ^ 32 }
+    ensures { IfOk result (λ s. IsSeen m.now s (starts.numbered_thread m.now l.now spmd number)) }
+{
+    if spmd {
+        first_thread(alloc, m, l, number, true, answers_at(USER_CODE, 1))
+    } else {
+        first_thread(alloc, m, l, number, false, answers_at(number, 0))
+    }
+}
+
+/// The main thread of a generic kernel, which runs user code.
+fn main_thread(alloc: Global, m: &Indexed, l: &Launch) -> Result<ThreadState, OutOfMemory>
+    requires few { length l.now.args ≤ 2 ^ 32 }
+    ensures { IfOk result (λ s. IsSeen m.now s (spec.main_thread m.now l.now)) }
+{
+    first_thread(alloc, m, l, l.threads, false, answers_at(USER_CODE, 0))
+}
+
 /// The threads of an SPMD kernel, or the workers of a generic one.
 fn numbered_threads(
     alloc: Global,
@@ -292,12 +287,11 @@ fn numbered_threads(
     spmd: bool,
 ) -> Result<Vec<ThreadState>, OutOfMemory>
     requires few { length l.now.args ≤ 2 ^ 32 }
-    ensures { IfOk result (λ ts. starts.AreSeen m.now ts.items (spec.threads_from m.now l.now (starts.numbered_answers l.now spmd) 0 l.now.threads)) }
+    ensures { IfOk result (λ ts. starts.AreSeen m.now ts.items (spec.threads_from (starts.numbered_thread m.now l.now spmd) 0 l.now.threads)) }
 {
     let mut threads = Vec::new(alloc);
     for number in 0..l.threads {
-        let answers = numbered_answers(l, spmd, number);
-        add(&mut threads, first_thread(alloc, m, l, number, answers)?)?;
+        add(&mut threads, numbered_thread(alloc, m, l, spmd, number)?)?;
     }
     Ok(threads)
 }
@@ -311,10 +305,7 @@ fn first_threads(alloc: Global, m: &Indexed, l: &Launch) -> Result<Vec<ThreadSta
     let spmd = is_spmd(m, l);
     let mut threads = numbered_threads(alloc, m, l, spmd)?;
     if !spmd {
-        add(
-            &mut threads,
-            first_thread(alloc, m, l, l.threads, main_answers())?,
-        )?;
+        add(&mut threads, main_thread(alloc, m, l)?)?;
     }
     Ok(threads)
 }

@@ -16,7 +16,7 @@ unreachable-requires-in_default-decide c =
     let i = c.in-Some.inst.now in
     let is = sym c.in-Some.ensures.value in
     no_trap (Next m (thread_seen m s)) c.in_default-decide.field-0 c.requires.pending
-    (next_decided m s (at_inst m s i is) i (Err c.in_default-decide.field-0) is (served m s i c.requires.sized is) (sym c.in_default-decide.is ∙ c.decide.ensures.value))
+    (next_decided m s (at_inst m s i c.requires.served c.requires.state is) i (Err c.in_default-decide.field-0) is (served m s i c.requires.served is) (sym c.in_default-decide.is ∙ c.decide.ensures.value))
 
 pub happen-requires-clause-there : goal.happen-requires-clause-there
 happen-requires-clause-there c = slice_get_within c.args.sh.now.stands c.args.thread Runs c.requires.runs
@@ -28,8 +28,8 @@ returns c =
     let sh = c.args.sh.now in
     let i = c.in-Some.inst.now in
     let is = sym c.in-Some.ensures.value in
-    let a = at_inst m s i is in
-    let does = served m s i c.requires.sized is in
+    let a = at_inst m s i c.requires.served c.requires.state is in
+    let does = served m s i c.requires.served is in
     let p = pending_of (Next m (thread_seen m s)) c.requires.pending in
     let decided = sym c.in-Ok.is ∙ c.decide.ensures.value in
     let stands = a.place_is ∙ is in
@@ -48,5 +48,5 @@ returns c =
       history = makes.history ∙ c.in_ok-push.ensures.ok;
     }
 
-pub decide-requires-clause-sized : goal.decide-requires-clause-sized
-decide-requires-clause-sized c = served c.args.m.now c.args.s.now c.in-Some.inst.now c.requires.sized (sym c.in-Some.ensures.value)
+pub decide-requires-clause-served : goal.decide-requires-clause-served
+decide-requires-clause-served c = served c.args.m.now c.args.s.now c.in-Some.inst.now c.requires.served (sym c.in-Some.ensures.value)

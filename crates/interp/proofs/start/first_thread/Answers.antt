@@ -14,7 +14,7 @@ returns c =
     let l = c.args.l.now in
     let k = c.in-Some.place in
     let values = c.in_ok-values.values in
-    let s : ThreadData = record { own = c.args.own; counter = 0; frames = c.new.result; stack = c.new-2.result; answers = c.args.answers } in
+    let s : ThreadData = record { own = c.args.own; size = c.args.l.now.threads; enters = c.args.enters; counter = 0; frames = c.new.result; stack = c.new-2.result; answers = c.args.answers } in
     let names = register_names m k in
     let size = values_size names (length names) (length (params_of (slice_get m.functions k))) (arg_words 0 l.args) values c.in_ok-values.ensures refl in
     let outermost = subst (λ fs. StandsAtCall m (reverse fs)) (sym c.new.ensures.items) tt in

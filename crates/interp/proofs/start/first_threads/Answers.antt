@@ -1,11 +1,10 @@
 use Rattle.std.proofs.Common.{◌≡◌, [], ◌∷◌, ◌++◌, true, false, subst, rules}
-use Rattle.mem_model.specs.Launching.{first_thread}
-use Rattle.team_model.specs.Team.{main_answers, first_threads}
+use Rattle.team_model.specs.Team.{main_thread, first_threads}
 use Rattle.thread_state.specs.Seen.{IsSeen}
 use Rattle.interp.specs.Starts.{AreSeen}
 use Rattle.interp.proofs.Started.{with_main, all_alike}
 use Rattle.interp.proofs.start.first_threads.Goals as goal
-use Rattle.interp.proofs.start.first_threads.Goals.{then-not-spmd+in_ok-first_thread+in_ok-add, else-not-spmd}
+use Rattle.interp.proofs.start.first_threads.Goals.{then-not-spmd+in_ok-main_thread+in_ok-add, else-not-spmd}
 
 pub returns : goal.returns
 returns c =
@@ -16,9 +15,9 @@ returns c =
     let new = c.if-not-spmd.threads.items in
     subst (λ b. AreSeen m new (first_threads m l b)) c.is_spmd-spmd.ensures
     (elim c.if-not-spmd.branch [
-      | then-not-spmd+in_ok-first_thread+in_ok-add w ↦
-          let s = w.in_ok-first_thread.field-0 in
-          let is : IsSeen m s (first_thread m l l.threads main_answers) = subst (λ answers. IsSeen m s (first_thread m l l.threads answers)) w.main_answers.ensures w.in_ok-first_thread.ensures in
+      | then-not-spmd+in_ok-main_thread+in_ok-add w ↦
+          let s = w.in_ok-main_thread.field-0 in
+          let is : IsSeen m s (main_thread m l) = w.in_ok-main_thread.ensures in
           let items : new ≡ ss ++ s ∷ [] = search rules in
           with_main m l spmd ss new s c.in_ok-threads.ensures (search rules) is items
       | else-not-spmd w ↦
