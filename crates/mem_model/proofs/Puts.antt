@@ -1,5 +1,5 @@
 -- What a change of one row, or of the tree, is for all blocks.
-use Rattle.std.proofs.Common.{◌≡◌, ℕ, List, [], ◌∷◌, true, false, cond, Option, Some, None, MutBor, refl, sym, ap, ◌∙◌, subst, arith, zero, suc, ◌<◌, length, slice_set, ◌⊎◌, inl, inr}
+use Rattle.std.proofs.Common.{◌≡◌, ℕ, zero, suc, ◌<◌, List, [], ◌∷◌, length, slice_set, true, false, cond, Option, Some, None, ◌⊎◌, inl, inr, MutBor, refl, sym, ap, ◌∙◌, subst, arith}
 use Rattle.std.specs.Prelude.{nat_eq, IsSome}
 use Rattle.std.specs.Option.{OnSome, option_copied_mut}
 use Rattle.std.specs.BTreeMap.{BTreeMap}
@@ -19,6 +19,8 @@ use Rattle.mem_model.specs.Rows.{in_slots, Puts, SameSlots, block_in, HasPut, Sa
 use Rattle.mem_model.proofs.Orders.{block_same}
 use Rattle.mem_model.proofs.KeptLaws.{found}
 
+-- ---- numbers
+
 number_test : (m n : ℕ) → nat_eq m n ≡ is_eq (nat_cmp m n)
 number_test m n = grind (arith, nat_tests)
 
@@ -30,15 +32,18 @@ no_more Greater = refl
 same_number : (m n : ℕ) → nat_eq m n ≡ is_eq (ordering_then (nat_cmp m n) Equal)
 same_number m n = number_test m n ∙ no_more (nat_cmp m n)
 
+-- a row compares numbers, and names compare their codes
 at_number : (b : Block) (was : Option Block) (m n : ℕ) → cond (nat_eq m n) (Some b) was ≡ cond (is_eq (ordering_then (nat_cmp m n) Equal)) (Some b) was
 at_number b was m n = ap (λ t. cond t (Some b) was) (same_number m n)
 
+-- what follows where a look-up has found something
 pub if_some : {A : Type 0} (r : Option A) (P Q : Type 0) → (P → Q) → OnSome r P → OnSome r Q
 if_some None P Q f h = tt
 if_some (Some x) P Q f h = f h
 
 -- ---- a row
 
+-- a slot that is set
 pub set_puts : (slots : List (Option Block)) (n : ℕ) (w : Block) → n < length slots → Puts slots n w (slice_set slots n (Some w))
 set_puts [] n w lt k = absurd (omega arith)
 set_puts (s ∷ slots) zero w lt zero = refl
@@ -108,6 +113,7 @@ module _ (b : Blocks) (row : Row) where
 
 -- ---- the tree
 
+-- the names that the tree is for
 pub not_counted : (name : BlockName) → ((t : ℕ) × (n : ℕ) × (name ≡ Stack t n)) ⊎ ((name ≡ Captures) ⊎ ((n : ℕ) × (name ≡ Code n))) → is_counted name ≡ false
 not_counted name (inl stack) = ap is_counted stack.2
 not_counted name (inr (inl captures)) = ap is_counted captures

@@ -18,6 +18,7 @@ use Rattle.mem_model.proofs.KeptLaws.{found, memory_of_none}
 use Rattle.mem_model.proofs.Changes.{Replaced, nothing_changes}
 use Rattle.mem_model.proofs.Calls.{made, holds_block}
 
+-- names that differ don't compare alike
 differ : (a b : BlockName) → (a ≡ b → ⊥) → same_block a b ≡ false
 differ a b unlike = false_from_ne_true (same_block a b) (λ e. unlike (block_same a b e))
 

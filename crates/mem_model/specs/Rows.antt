@@ -1,6 +1,5 @@
 -- The blocks of a memory, as rows of those whose names are counted and a tree of all others.
-use Rattle.std.specs.Prelude.{◌≡◌, ℕ, zero, suc, nat_eq, List, [], ◌∷◌, ◌++◌, Option, Some, None, Bool, true, false, cond}
-use Rattle.std.specs.Prelude.{slice_get}
+use Rattle.std.specs.Prelude.{◌≡◌, ℕ, zero, suc, nat_eq, List, [], ◌∷◌, ◌++◌, Option, Some, None, Bool, true, false, cond, slice_get}
 use Rattle.std.specs.Option.{OnSome, option_flatten}
 use Rattle.std.specs.Borrow.{LendsSo, MutBor, Fml}
 use Rattle.std.specs.Map.{lookup}
@@ -28,6 +27,7 @@ Puts old number b new = (k : ℕ) → in_slots new k ≡ cond (nat_eq number k) 
 abbrev pub SameSlots : List (Option Block) → List (Option Block) → Type 0
 SameSlots old new = (k : ℕ) → in_slots new k ≡ in_slots old k
 
+-- the row ends with what is written at the number, and at none as it was
 abbrev pub LendsSlot : MutBor Row → ℕ → Option (MutBor Block) → Fml
 LendsSlot s number r = LendsSo row.the_row block.the_row s r (λ n w. OnSome r (Puts s.now.slots.items number w n.slots.items)) (λ n. SameSlots s.now.slots.items n.slots.items)
 
@@ -55,6 +55,7 @@ HasPut old name b new = (q : BlockName) → block_in new q ≡ cond (same_block 
 abbrev pub SameBlocks : Blocks → Blocks → Type 0
 SameBlocks old new = (q : BlockName) → block_in new q ≡ block_in old q
 
+-- the blocks end with what is written under the name, and at none as they were
 abbrev pub LendsBlock : MutBor Blocks → BlockName → Option (MutBor Block) → Fml
 LendsBlock s name r = LendsSo blocks.the_row block.the_row s r (λ n w. OnSome r (HasPut s.now name w n)) (λ n. SameBlocks s.now n)
 

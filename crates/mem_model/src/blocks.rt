@@ -10,7 +10,7 @@ use ir_core::OutOfMemory;
 use std::alloc::Global;
 use std::collections::BTreeMap;
 
-/// The blocks of one kind, each at its number.
+/// The blocks of one kind, each at its number. A row takes memory for all numbers up to its greatest.
 #[derive(Drop)]
 struct Row {
     slots: Vec<Option<Block>>,
@@ -42,7 +42,7 @@ impl Row {
         slot.as_mut()
     }
 
-    /// Makes the row reach a number.
+    /// Makes the row reach up to a number. For want of memory it may reach less far.
     fn reach(&mut self, number: usize) -> Result<(), OutOfMemory>
         ensures reaches { OnOk result (number < length self.new.slots.items) }
         ensures same { SameSlots self.old.slots.items self.new.slots.items }
@@ -55,7 +55,7 @@ impl Row {
         Ok(())
     }
 
-    /// Puts a block at a number. For want of memory none is put.
+    /// Puts a block at a number, or for want of memory nowhere.
     fn insert(&mut self, number: u64, block: Block) -> Result<(), OutOfMemory>
         ensures { MatchResult result (λ _. Puts self.old.slots.items number block self.new.slots.items) (λ _. SameSlots self.old.slots.items self.new.slots.items) }
     {
@@ -116,7 +116,7 @@ impl Blocks {
         }
     }
 
-    /// Puts a block under a name. For want of memory none is put.
+    /// Puts a block under a name, or for want of memory nowhere.
     pub(crate) fn insert(&mut self, name: BlockName, block: Block) -> Result<(), OutOfMemory>
         ensures { MatchResult result (λ _. HasPut self.old name block self.new) (λ _. SameBlocks self.old self.new) }
     {
