@@ -18,7 +18,7 @@ use Rattle.mem_model.specs.declared.memory.Word.{Word}
 use Rattle.mem_model.specs.declared.memory.Word.TheVariants.{Int, Ptr as Address}
 use Rattle.mem_model.specs.declared.memory.Cell.{Cell}
 use Rattle.mem_model.specs.declared.memory.Cell.TheVariants.{Int as IntCell, Ptr as PtrCell}
-use Rattle.mem_model.specs.declared.shared.Block.{Block}
+use Rattle.mem_model.specs.declared.block.Block.{Block}
 use Rattle.mem_model.specs.declared.step.Trap.{Trap}
 use Rattle.mem_model.specs.declared.step.Trap.TheVariants.{NoBlock, Released, OutOfBlock, Constant, TooLarge}
 use Rattle.mem_model.specs.Blocks.{block_cmp, same_block}

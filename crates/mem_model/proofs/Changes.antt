@@ -6,7 +6,7 @@ use Rattle.std.proofs.lemmas.Bool.{cases_lt, false≢true}
 use Rattle.std.proofs.lemmas.List.{length-take-le}
 use Rattle.mem_model.specs.declared.memory.BlockName.{BlockName}
 use Rattle.mem_model.specs.declared.memory.Byte.{Byte}
-use Rattle.mem_model.specs.declared.shared.Block.{Block}
+use Rattle.mem_model.specs.declared.block.Block.{Block}
 use Rattle.mem_model.specs.Blocks.{same_block}
 use Rattle.mem_model.specs.Orders.{block_equiv}
 use Rattle.mem_model.specs.Memory.{Header, put_bytes}

@@ -10,7 +10,7 @@ use Rattle.std.proofs.lemmas.Bool.{and_parts, cases_eq, cases_lt, false≢true}
 use Rattle.std.proofs.lemmas.Option.{slice_get_past}
 use Rattle.mem_model.specs.declared.memory.BlockName.{BlockName}
 use Rattle.mem_model.specs.declared.memory.Byte.{Byte}
-use Rattle.mem_model.specs.declared.shared.Block.{Block}
+use Rattle.mem_model.specs.declared.block.Block.{Block}
 use Rattle.mem_model.specs.Blocks.{block_cmp, place_cmp, same_block}
 use Rattle.mem_model.specs.Orders.{block_total, block_equiv}
 use Rattle.mem_model.specs.Memory.{Memory, no_blocks, Header, put_bytes}

@@ -11,4 +11,6 @@ pub mod Spelling
 pub mod KeptLaws
 pub mod Changes
 pub mod Calls
+pub mod RowLaws
+pub mod Puts
 pub mod Fits

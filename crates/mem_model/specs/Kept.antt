@@ -6,7 +6,7 @@ use Rattle.mem_model.specs.declared.memory.BlockName.{BlockName}
 use Rattle.mem_model.specs.declared.memory.Byte.{Byte}
 use Rattle.mem_model.specs.declared.memory.Word.{Word}
 use Rattle.mem_model.specs.declared.memory.Cell.{Cell}
-use Rattle.mem_model.specs.declared.shared.Block.{Block}
+use Rattle.mem_model.specs.declared.block.Block.{Block}
 use Rattle.mem_model.specs.declared.step.Trap.{Trap}
 use Rattle.mem_model.specs.declared.step.Trap.TheVariants.{StackLeak, Released, OutOfBlock}
 use Rattle.mem_model.specs.Blocks.{place_cmp, same_block}

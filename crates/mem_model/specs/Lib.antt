@@ -21,3 +21,4 @@ pub mod MemoryLaws
 pub mod Answers
 pub mod Coded
 pub mod Kept
+pub mod Rows

@@ -6,6 +6,8 @@
 #![tactic(auto)]
 
 mod arithmetic;
+mod block;
+mod blocks;
 mod bytes;
 mod covering;
 mod crossing;

@@ -1,109 +1,28 @@
 //! The memory that threads share: blocks, found by name.
-ghost use Rattle.std.specs.Prelude.{◌≡◌, ℕ, ◌<◌, ◌≤◌, Some, None, true, false, [], ◌∷◌, length, IfOk, IsSome, is_some, MatchResult};
+ghost use Rattle.std.specs.Prelude.{◌≡◌, ℕ, ◌<◌, ◌≤◌, None, IfOk, IsSome, is_some, MatchResult};
 ghost use Rattle.std.specs.FinMap as fin;
 ghost use Rattle.mem_model.specs.declared.memory.Word.{Word as SpecWord};
-ghost use Rattle.mem_model.specs.Words as words;
-ghost use Rattle.mem_model.specs.Memory.{no_blocks, with_block, access, Shares, Load, Store, Allocate, Release, header_size, bytes_at};
-ghost use Rattle.mem_model.specs.Kept.{header_of, word_at, IsOverwritten, IsWritten, IsReleased};
+ghost use Rattle.mem_model.specs.Memory.{no_blocks, with_block, Shares, Load, Store, Allocate, Release, header_size, bytes_at};
 ghost use Rattle.mem_model.specs.Answers.{IsCell, IsOf, IsInside, IsDone, IsMade, only_trap, with_byte};
 ghost use Rattle.mem_model.specs.Thread.{given_of};
 
-use crate::bytes::{cell_size, place_in, read_word, write_word};
+use crate::block::Block;
+use crate::blocks::Blocks;
 use crate::launch::Shown;
 use crate::memory::{BlockName, Byte, Cell, Ptr, Word};
 use crate::step::Trap;
 use ir_core::{List, Or, OutOfMemory};
 use std::alloc::Global;
-use std::collections::BTreeMap;
 use std::marker::Model;
 
 /// The largest block, in bytes.
 const BLOCK_LIMIT: u64 = 1_048_576;
 
-/// A block: its bytes, whether only reads may go to it, and whether it is released. A released block keeps its bytes.
-#[derive(Drop)]
-struct Block {
-    bytes: Vec<Byte>,
-    constant: bool,
-    released: bool,
-}
-
-impl Block {
-    /// Where an access of so many bytes begins.
-    fn access(&self, offset: i64, count: usize, writes: bool) -> Result<usize, Trap>
-        ensures { result ≡ access (Some (header_of self.now)) offset count writes }
-    {
-        if self.released {
-            return Err(Trap::Released);
-        }
-        let start = place_in(self.bytes.len(), offset, count)?;
-        if writes && self.constant {
-            return Err(Trap::Constant);
-        }
-        Ok(start)
-    }
-
-    /// The word of a cell at an offset.
-    fn read(&self, offset: i64, cell: Cell) -> Result<Word, Trap>
-        requires { IsCell cell }
-        ensures { result ≡ word_at cell self.now.bytes.items (access (Some (header_of self.now)) offset (words.cell_size cell) false) }
-    {
-        let size = cell_size(cell);
-        let start = self.access(offset, size, false)?;
-        read_word(&self.bytes[start..start + size], cell)
-    }
-
-    /// Whether a word of a cell can be written at an offset.
-    fn reaches(&self, offset: i64, cell: Cell) -> Result<(), Trap>
-        ensures { result ≡ only_trap (access (Some (header_of self.now)) offset (words.cell_size cell) true) }
-    {
-        self.access(offset, cell_size(cell), true)?;
-        Ok(())
-    }
-
-    /// Releases the block, of which the offset is the beginning and `len` the size.
-    fn release(&mut self, offset: i64, len: u64) -> Result<(), Trap>
-        ensures { IsReleased len offset self.old self.new result }
-    {
-        if self.released {
-            return Err(Trap::Released);
-        }
-        if offset != 0 || len != self.bytes.len() as u64 {
-            return Err(Trap::OutOfBlock);
-        }
-        self.released = true;
-        Ok(())
-    }
-
-    /// Puts a byte at a place.
-    fn set(&mut self, at: u64, byte: Byte)
-        requires { at < length self.old.bytes.items }
-        ensures { IsOverwritten self.old at (byte ∷ []) self.new }
-    {
-        self.bytes[at as usize] = byte;
-    }
-
-    /// Writes a word of a cell at an offset.
-    fn write(&mut self, offset: i64, cell: Cell, word: Word) -> Result<(), Trap>
-        requires cell { IsCell cell }
-        requires word { IsOf cell word }
-        ensures { IsWritten (access (Some (header_of self.old)) offset (words.cell_size cell) true) cell (given_of word) self.old self.new result }
-    {
-        let size = cell_size(cell);
-        let start = self.access(offset, size, true)?;
-        if let Word::Ptr(Ptr::At(BlockName::Stack(..), _)) = word {
-            return Err(Trap::StackLeak);
-        }
-        write_word(&mut self.bytes[start..start + size], cell, word);
-        Ok(())
-    }
-}
-
-/// The memory that threads share. A name is found in a time that grows with the logarithm of the number of blocks.
+/// The memory that threads share. A block of an argument, a global or the heap is found in the same time, however many there are.
 #[derive(Drop)]
 pub struct Memory {
     alloc: Global,
-    blocks: BTreeMap<BlockName, Block>,
+    blocks: Blocks,
 }
 
 impl Model for Memory {
@@ -115,8 +34,9 @@ impl Model for Memory {
     ghost coded = { memory_code };
 
     ghost use Rattle.mem_model.specs.Kept.{memory_of};
+    ghost use Rattle.mem_model.specs.Rows.{entries_of};
 
-    ghost view = { λ m. memory_of m.blocks.entries };
+    ghost view = { λ m. memory_of (entries_of m.blocks) };
 }
 
 impl Memory {
@@ -126,7 +46,7 @@ impl Memory {
     {
         Memory {
             alloc,
-            blocks: BTreeMap::new(alloc),
+            blocks: Blocks::new(alloc),
         }
     }
 
@@ -134,7 +54,7 @@ impl Memory {
     pub fn contains(&self, name: BlockName) -> bool
         ensures { result ≡ is_some (fin.get self.now.blocks name) }
     {
-        self.blocks.contains_key(&name)
+        self.blocks.get(name).is_some()
     }
 
     /// Puts a new block of these bytes.
@@ -156,10 +76,7 @@ impl Memory {
             constant,
             released: false,
         };
-        match self.blocks.insert(name, block) {
-            Ok(_) => Ok(()),
-            Err(_) => Err(OutOfMemory),
-        }
+        self.blocks.insert(name, block)
     }
 
     /// Makes a block of so many zero bytes.
@@ -194,7 +111,7 @@ impl Memory {
         let BlockName::Heap(_) = name else {
             return Err(Trap::NoBlock);
         };
-        match self.blocks.get_mut(&name) {
+        match self.blocks.get_mut(name) {
             Some(block) => block.release(offset, len),
             None => Err(Trap::NoBlock),
         }
@@ -213,7 +130,7 @@ impl Memory {
         let Ptr::At(name, offset) = *at else {
             return Err(Trap::NoBlock);
         };
-        match self.blocks.get(&name) {
+        match self.blocks.get(name) {
             Some(block) => block.read(offset, cell),
             None => Err(Trap::NoBlock),
         }
@@ -234,7 +151,7 @@ impl Memory {
         let Ptr::At(name, offset) = *at else {
             return Err(Trap::NoBlock);
         };
-        match self.blocks.get_mut(&name) {
+        match self.blocks.get_mut(name) {
             Some(block) => block.write(offset, cell, word),
             None => Err(Trap::NoBlock),
         }
@@ -251,7 +168,7 @@ impl Memory {
         let Ptr::At(name, offset) = *at else {
             return Err(Trap::NoBlock);
         };
-        match self.blocks.get(&name) {
+        match self.blocks.get(name) {
             Some(block) => block.reaches(offset, cell),
             None => Err(Trap::NoBlock),
         }
@@ -262,7 +179,7 @@ impl Memory {
         requires { IsInside self.old name at }
         ensures { self.new ≡ with_byte self.old name at byte }
     {
-        if let Some(block) = self.blocks.get_mut(&name) {
+        if let Some(block) = self.blocks.get_mut(name) {
             block.set(at, byte);
         }
     }
@@ -272,7 +189,7 @@ impl Memory {
         requires { IsSome (fin.get self.now.blocks name) }
         ensures { IfOk result (λ s. (s.name ≡ name) × (s.bytes ≡ bytes_at self.now name 0 (header_size (fin.get self.now.blocks name)))) }
     {
-        let bytes = match self.blocks.get(&name) {
+        let bytes = match self.blocks.get(name) {
             Some(block) => List::from_slice(self.alloc, block.bytes.as_slice())?,
             None => List::new(self.alloc),
         };

@@ -7,6 +7,7 @@ use Rattle.mem_model.specs.Memory.{Shares, access, Store}
 use Rattle.mem_model.specs.Kept.{header_of}
 use Rattle.mem_model.specs.Answers.{only_trap}
 use Rattle.mem_model.proofs.Calls.{kept_reach, store_none}
+use Rattle.mem_model.proofs.RowLaws.{found_in}
 use Rattle.mem_model.proofs.shared.Memory.reaches.Goals as goal
 
 pub returns-in-Some : goal.returns-in-Some
@@ -16,10 +17,10 @@ returns-in-Some c = λ word.
     let fits : FitsSigned w64 c.in-At.offset = search rules in
     c.reaches.ensures
     ∙ ap (λ z. only_trap (access (Some (header_of b)) z (cell_size cell) true)) (to_z-of_z w64 c.in-At.offset fits)
-    ∙ kept_reach _ c.in-At.name b (sym c.in-Some.ensures.value) c.in-At.offset cell word
+    ∙ kept_reach _ c.in-At.name b (found_in _ c.in-At.name ∙ sym c.in-Some.ensures) c.in-At.offset cell word
     ∙ (λ i. only_trap (Store (c.self.view_is i) (sym c.in-At.is i) cell (Shares word)))
 
 pub returns-in-None : goal.returns-in-None
 returns-in-None c = λ word.
-    sym (ap only_trap (store_none _ c.in-At.name c.in-At.offset c.args.cell (Shares word) (sym c.in-None.ensures.value)))
+    sym (ap only_trap (store_none _ c.in-At.name c.in-At.offset c.args.cell (Shares word) (found_in _ c.in-At.name ∙ sym c.in-None.ensures)))
     ∙ (λ i. only_trap (Store (c.self.view_is i) (sym c.in-At.is i) c.args.cell (Shares word)))

@@ -7,8 +7,10 @@ use Rattle.mem_model.specs.Words.{cell_size}
 use Rattle.mem_model.specs.Memory.{access, Store}
 use Rattle.mem_model.specs.Thread.{given_of}
 use Rattle.mem_model.specs.Kept.{header_of, memory_of, IsWritten}
+use Rattle.mem_model.specs.Rows.{entries_of}
 use Rattle.mem_model.proofs.Changes.{Replaced}
 use Rattle.mem_model.proofs.Calls.{kept_store, store_none, done_along, refused}
+use Rattle.mem_model.proofs.RowLaws.{found_in, where_found, replaced, same_shown}
 use Rattle.mem_model.proofs.shared.Memory.write.Goals as goal
 use Rattle.mem_model.proofs.shared.Memory.write.Goals.{in-Some, in-None}
 
@@ -16,16 +18,17 @@ pub returns : goal.returns
 returns c =
     elim c.match-get_mut.branch [
       | in-Some w ↦
-          let es = c.self.inside.blocks.entries in
-          let new_es = (c.get_mut.follows.lender w.write.new.self).entries in
-          let r : Replaced es new_es c.in-At.name w.in-Some.block.now w.write.new.self = record { was = sym w.in-Some.ensures.value; finds = ((c.get_mut.follows.holds w.write.new.self).3 (search rules)).0 } in
+          let es = entries_of c.self.inside.blocks in
+          let new_b = c.get_mut.follows.lender w.write.new.self in
+          let new_es = entries_of new_b in
+          let r : Replaced es new_es c.in-At.name w.in-Some.block.now w.write.new.self = replaced c.self.inside.blocks new_b c.in-At.name w.write.new.self (where_found c.get_mut.result _ (search rules) (c.get_mut.follows.holds w.write.new.self)) w.in-Some.block.now (sym w.in-Some.ensures.value) in
           let fits : FitsSigned w64 c.in-At.offset = search rules in
-          done_along (λ m p. Store m p c.args.cell (given_of c.args.word)) c.self.view_is (sym c.in-At.is) (sym (ap (λ m. memory_of m.blocks.entries) w.self-inside-is)) (sym w.result-is)
+          done_along (λ m p. Store m p c.args.cell (given_of c.args.word)) c.self.view_is (sym c.in-At.is) (sym (ap (λ m. memory_of (entries_of m.blocks)) w.self-inside-is)) (sym w.result-is)
           (kept_store es new_es c.in-At.name w.in-Some.block.now w.write.new.self r c.in-At.offset c.args.cell c.args.word w.write.result c.requires.word
           (subst (λ z. IsWritten (access (Some (header_of w.in-Some.block.now)) z (cell_size c.args.cell) true) c.args.cell (given_of c.args.word) w.in-Some.block.now w.write.new.self w.write.result) (to_z-of_z w64 c.in-At.offset fits) w.write.ensures))
       | in-None w ↦
-          let es = c.self.inside.blocks.entries in
-          let same = ap (λ m. memory_of m.blocks.entries) w.self-inside-is ∙ ap (λ m. memory_of m.entries) c.get_mut.follows.holds-at-none in
+          let es = entries_of c.self.inside.blocks in
+          let same = ap (λ m. memory_of (entries_of m.blocks)) w.self-inside-is ∙ same_shown c.self.inside.blocks _ c.get_mut.follows.holds-at-none in
           done_along (λ m p. Store m p c.args.cell (given_of c.args.word)) c.self.view_is (sym c.in-At.is) refl refl
-          (refused _ NoBlock (memory_of es) _ _ (store_none es c.in-At.name c.in-At.offset c.args.cell (given_of c.args.word) (sym w.in-None.ensures.value)) w.result-is same)
+          (refused _ NoBlock (memory_of es) _ _ (store_none es c.in-At.name c.in-At.offset c.args.cell (given_of c.args.word) (found_in c.self.inside.blocks c.in-At.name ∙ sym w.in-None.ensures.value)) w.result-is same)
     ]

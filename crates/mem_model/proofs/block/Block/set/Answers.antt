@@ -1,7 +1,7 @@
 use Rattle.std.proofs.Common.{◌≡◌, ℕ, ◌+◌, suc, ap, ◌++◌, ◌∷◌, take, drop, ◌∙◌, arith}
 use Rattle.std.proofs.lemmas.List.{length-set, set_split}
 use Rattle.mem_model.specs.Memory.{Header}
-use Rattle.mem_model.proofs.shared.Block.set.Goals as goal
+use Rattle.mem_model.proofs.block.Block.set.Goals as goal
 
 pub returns : goal.returns
 returns c =

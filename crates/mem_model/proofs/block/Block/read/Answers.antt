@@ -4,7 +4,7 @@ use Rattle.std.proofs.lemmas.Int.{to_z-of_z}
 use Rattle.mem_model.specs.Memory.{access}
 use Rattle.mem_model.specs.Kept.{header_of, word_at}
 use Rattle.mem_model.proofs.Calls.{word_read}
-use Rattle.mem_model.proofs.shared.Block.read.Goals as goal
+use Rattle.mem_model.proofs.block.Block.read.Goals as goal
 
 pub returns : goal.returns
 returns c =
