@@ -2,7 +2,7 @@
 use Rattle.std.proofs.Common.{◌≡◌, ℕ, zero, suc, ◌+◌, ◌<◌, ◌≤◌, List, [], ◌∷◌, ◌++◌, map, take, drop, length, reverse, replicate, get_or, Bool, true, false, Option, Some, None, refl, sym, ap, ◌∙◌, subst, arith, slice_get}
 use Rattle.std.specs.FinMap as fin
 use Rattle.std.specs.List.{flat_map}
-use Rattle.std.proofs.lemmas.List.{length-map, map-append, drop_more, take_all}
+use Rattle.std.proofs.lemmas.List.{length-map, map-append, drop_more}
 use Rattle.ir_core.specs.declared.module.Module.{Module}
 use Rattle.ir_core.specs.declared.module.Function.{Function}
 use Rattle.ir_core.specs.declared.module.Global.{Global}
@@ -16,21 +16,20 @@ use Rattle.mem_model.specs.declared.memory.Byte.{Byte}
 use Rattle.mem_model.specs.declared.memory.Word.{Word}
 use Rattle.mem_model.specs.Memory.{Memory, no_blocks, with_block}
 use Rattle.mem_model.specs.declared.phase.Phase.TheVariants.{Begins}
-use Rattle.mem_model.specs.Thread.{Registers, ThreadState, bound}
+use Rattle.mem_model.specs.Thread.{ThreadState, bound}
 use Rattle.mem_model.specs.Next.{with_frames}
 use Rattle.mem_model.specs.Globals.{contents, with_globals}
 use Rattle.mem_model.specs.Launching.{arg_word, arg_words, params_of, first_registers, Role, thread_at, first_thread, with_buffers, first_memory, first_common}
 use Rattle.mem_model.proofs.BlockLaws.{header_apart}
 use Rattle.mem_model.proofs.Runs.{some_injective}
 use Rattle.team_model.specs.declared.Stand.TheVariants.{Runs}
-use Rattle.team_model.specs.Team.{TeamShared, Team, worker, main_thread, with_captures, threads_from, first_threads, runs_at_first, started}
+use Rattle.team_model.specs.Team.{worker, main_thread, with_captures, threads_from, first_threads, runs_at_first, started}
 use Rattle.thread_state.specs.declared.state.StackBlock.{StackBlock}
 use Rattle.thread_state.specs.declared.state.ThreadState.{ThreadState as ThreadData}
 use Rattle.thread_state.specs.Seen.{registers_seen, back_seen, frames_seen, answers_seen, thread_seen, AreFrames, AreBlocks, IsThread, IsSeen}
 use Rattle.thread_state.specs.Stored.{entered}
 use Rattle.interp_local.specs.Calls.{put_words}
 use Rattle.interp_local.proofs.Entered.{put_length, function_registers, params_few}
-use Rattle.interp.specs.declared.shared.TeamShared.{TeamShared as SharedData}
 use Rattle.interp.specs.declared.team.Team.{Team as TeamData}
 use Rattle.interp.specs.Events.{shared_seen}
 use Rattle.interp.specs.Teams.{team_seen, AreThreads}

@@ -1,5 +1,5 @@
 -- The first states of a team's threads, part by part.
-use Rattle.std.specs.Prelude.{◌≡◌, ℕ, List, [], map, length, replicate, Bool, true, false, Option, Some, None, slice_get}
+use Rattle.std.specs.Prelude.{◌≡◌, ℕ, List, map, length, replicate, Bool, true, false, Option, None, slice_get}
 use Rattle.ir_core.specs.declared.module.Module.{Module}
 use Rattle.ir_core.specs.Places.{register_names}
 use Rattle.mem_model.specs.declared.launch.Launch.{Launch}

@@ -1,6 +1,6 @@
-use Rattle.std.proofs.Common.{◌≡◌, ◌∙◌, ap, rules}
+use Rattle.std.proofs.Common.{◌∙◌, rules}
 use Rattle.team_model.specs.Team.{goes_again}
-use Rattle.interp.proofs.Mapped.{mapped, mapped_all, one_more, no_more}
+use Rattle.interp.proofs.Mapped.{mapped_all, one_more, no_more}
 use Rattle.interp.proofs.barriers.wake.Goals as goal
 use Rattle.interp.proofs.barriers.wake.Goals.{in-Some, in_default}
 

@@ -1,4 +1,4 @@
-use Rattle.std.proofs.Common.{◌≡◌, [], ◌∷◌, ◌++◌, true, false, subst, rules}
+use Rattle.std.proofs.Common.{◌≡◌, [], ◌∷◌, ◌++◌, subst, rules}
 use Rattle.team_model.specs.Team.{main_thread, first_threads}
 use Rattle.thread_state.specs.Seen.{IsSeen}
 use Rattle.interp.specs.Starts.{AreSeen}

@@ -1,4 +1,4 @@
-use Rattle.std.proofs.Common.{◌≡◌, length, take, arith}
+use Rattle.std.proofs.Common.{take}
 use Rattle.mem_model.specs.Launching.{arg_words}
 use Rattle.interp.proofs.Started.{room_left, words_before, words_more}
 use Rattle.interp.proofs.start.put_arguments.Goals as goal
