@@ -49,6 +49,7 @@ use Rattle.mem_model.specs.Update.{Updated, update_number, update_at}
 use Rattle.mem_model.specs.Next.{NextStep, Local, Trapped, with_found, with_number, with_pointer, with_result, with_scalar, with_frames, code_on, code_past, goes_on, goes_past, in_phase, result_of, phi_word, with_phis, enters, to_block, to_label, is_case, case_for, loads, stores, updates, allocates, Callee, CallsEntry, CallsFunction, CallsOther, callee_of, called, next_call, goes_back, back_in, returns, next_kind, next_inst, enters_region, enters_kind, enters_at, next_in, next_frames, Next, resumed_frames, arrived_frames}
 use Rattle.mem_model.specs.Launching.{thread_at}
 use Rattle.mem_laws.specs.StepLaws.{StandsAt, IsNot, PhisSwap, SwitchFirst, SwitchOther, CallBegins, ReturnGoesBack, CallReturns, ReturnLeaves, AllocaMakes, HasNoNewer, FirstThreadIsNew, NamesAreNew, AllocaEnds, UpdateInOne, UpdateOfConstant}
+use Rattle.mem_model.proofs.StepCases.{LeadsTo, if_found, if_number, if_pointer, if_result, if_either, if_scalar}
 use Rattle.mem_model.proofs.AccessTests.{begin, in_block}
 use Rattle.mem_model.proofs.StoreLaws.{access_reads}
 
@@ -208,31 +209,25 @@ NoneFrom own count fs = (n : ℕ) → count ≤ n → find_in fs (own, n) ≡ No
 
 -- behind a step of the thread's own there is none from the number on of the blocks that were made
 abbrev Keeps : NextStep → Type 0
-Keeps (Local u) = HasNoNewer u
-Keeps _ = Unit {0}
+Keeps = LeadsTo HasNoNewer (λ event. Unit {0})
 
 keeps_found : {A : Type 0} (r : Result A Trap) (go : A → NextStep) → ((x : A) → Keeps (go x)) → Keeps (with_found r go)
-keeps_found (Err e) go h = tt
-keeps_found (Ok x) go h = h x
+keeps_found = if_found HasNoNewer (λ event. Unit {0})
 
 keeps_number : (w : Word) (go : ℕ → NextStep) → ((n : ℕ) → Keeps (go n)) → Keeps (with_number w go)
-keeps_number (Int n) go h = h n
-keeps_number (Address p) go h = tt
+keeps_number = if_number HasNoNewer (λ event. Unit {0})
 
 keeps_pointer : (w : Word) (go : Ptr → NextStep) → ((p : Ptr) → Keeps (go p)) → Keeps (with_pointer w go)
-keeps_pointer (Int n) go h = tt
-keeps_pointer (Address p) go h = h p
+keeps_pointer = if_pointer HasNoNewer (λ event. Unit {0})
 
 keeps_result : {A : Type 0} (o : Option A) (go : A → NextStep) → ((x : A) → Keeps (go x)) → Keeps (with_result o go)
-keeps_result None go h = tt
-keeps_result (Some x) go h = h x
+keeps_result = if_result HasNoNewer (λ event. Unit {0})
 
 keeps_either : (test : Bool) (x y : NextStep) → Keeps x → Keeps y → Keeps (if test then x else y)
-keeps_either true x y h k = h
-keeps_either false x y h k = k
+keeps_either = if_either HasNoNewer (λ event. Unit {0})
 
 keeps_scalar : (ty : Ty) (go : NextStep) → Keeps go → Keeps (with_scalar ty go)
-keeps_scalar ty go h = keeps_either (is_scalar ty) go (Trapped Unreachable) h tt
+keeps_scalar = if_scalar HasNoNewer (λ event. Unit {0})
 
 both_none : (a b : Option (List Byte)) → or_else a b ≡ None → (a ≡ None) × (b ≡ None)
 both_none None b e = (refl, e)
