@@ -6,7 +6,6 @@ use Rattle.std.specs.FinMap as fin
 use Rattle.std.proofs.lemmas.Bool.{and_parts, le-leb, eq-eqb, eqb-true, false_from_ne_true}
 use Rattle.std.proofs.lemmas.Slice.Eq.{bytes_eq-Decides}
 use Rattle.ir_core.specs.declared.types.Ty.{Ty}
-use Rattle.ir_core.specs.FirstForm.{is_scalar}
 use Rattle.ir_core.specs.declared.instructions.Value.{Value}
 use Rattle.ir_core.specs.declared.instructions.Value.TheVariants.{Int as IntValue, Null, Local as Register, Global as GlobalValue}
 use Rattle.ir_core.specs.declared.instructions.Typed.{Typed}
@@ -30,7 +29,7 @@ use Rattle.mem_model.specs.declared.memory.Word.TheVariants.{Int, Ptr as Address
 use Rattle.mem_model.specs.declared.memory.Cell.{Cell}
 use Rattle.mem_model.specs.declared.memory.Cell.TheVariants.{Int as IntCell, Ptr as PtrCell}
 use Rattle.mem_model.specs.declared.step.Trap.{Trap}
-use Rattle.mem_model.specs.declared.step.Trap.TheVariants.{Constant, TooLarge, NotStack, Division, Unreachable}
+use Rattle.mem_model.specs.declared.step.Trap.TheVariants.{Constant, TooLarge, NotStack, Division}
 use Rattle.mem_model.specs.Words.{cell_size, number_bytes, word_in}
 use Rattle.mem_model.specs.Memory.{Memory, Shares, access, unless, bytes_at, load_from, store_to, Load, Store, block_limit}
 use Rattle.mem_model.specs.declared.phase.LoopPoint.{LoopPoint}

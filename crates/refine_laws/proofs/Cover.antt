@@ -1,7 +1,7 @@
 -- The team of a kernel with its machine off does what the source does.
-use Rattle.std.proofs.Common.{◌≡◌, ℕ, ◌+◌, ◌*◌, ◌<◌, ◌≤◌, List, [], ◌∷◌, ◌++◌, length, Bool, true, false, Some, None, refl, sym, ap, ◌∙◌, subst, arith, is_some, mul-le-mul}
+use Rattle.std.proofs.Common.{◌≡◌, ℕ, ◌+◌, ◌*◌, ◌<◌, ◌≤◌, List, [], ◌∷◌, ◌++◌, length, Bool, true, false, ◌||◌, Option, Some, None, refl, sym, ap, ◌∙◌, subst, arith, is_some, mul-le-mul}
 use Rattle.std.specs.Prelude.{slice_get, if◌then◌else◌}
-use Rattle.std.specs.List.{list_all}
+use Rattle.std.specs.List.{list_all, list_any}
 use Rattle.std.proofs.Math.Nat.{mul-add}
 use Rattle.ir_core.specs.declared.module.Module.{Module}
 use Rattle.ir_core.specs.declared.module.Function.{Function}
@@ -21,14 +21,16 @@ use Rattle.mem_model.specs.Launching.{Fits, threads_limit, buffer_names, global_
 use Rattle.mem_model.proofs.Simulation.{Meets, meets_run}
 use Rattle.source_model.specs.declared.Choice.TheVariants.{Main}
 use Rattle.source_model.specs.Source as source
-use Rattle.source_model.specs.Source.{SourceState, SourceStep, SourceSystem, source_start, source_end, source_outcome, by_choice, while_running}
+use Rattle.source_model.specs.Source.{SourceState, SourceStep, SourceSystem, source_start, source_end, source_outcome, Trapping, by_choice, while_running, can_go}
 use Rattle.team_model.specs.declared.Stand.{Stand}
 use Rattle.team_model.specs.declared.Stand.TheVariants.{Runs, Waits, Ended as Gone}
 use Rattle.team_model.specs.Team as team
 use Rattle.team_model.specs.Team.{Team, TeamStep, TeamSystem, team_start, team_end, team_outcome, is_gone, is_held}
 use Rattle.refine_laws.proofs.AlikeMemory.{AllPlain, all_shown_alike}
 use Rattle.refine_laws.proofs.ListPlaces.{all_at}
+use Rattle.refine_laws.specs.Quiet.{CallsQuietly}
 use Rattle.refine_laws.proofs.KernelShape.{KernelShape, minus_one, kernel_shape}
+use Rattle.refine_laws.proofs.QuietForm.{quiet_first}
 use Rattle.refine_laws.proofs.Relation.{stand_of, is_free, Tied}
 use Rattle.refine_laws.proofs.EachStep.{each_step}
 use Rattle.refine_laws.proofs.Start.{tied_at_start}
@@ -65,7 +67,10 @@ gone_returns false h = let f : ⊥ = cc in absurd f
 -- the source has ended where its main thread has returned
 source_ended : (m : Module) (s : SourceState) → s.trapped ≡ None → s.returned ≡ true → source_end m s ≡ Ended
 source_ended m s goes returned =
-    ap (λ o. source.end_by o s.returned (is_some (while_running s.returned o (by_choice m s Main)))) goes ∙ ap (λ b. source.end_by None b (is_some (while_running b None (by_choice m s Main)))) returned
+    ap (λ o. source.end_by o s.returned (is_ready s.returned o)) goes ∙ ap (λ b. source.end_by None b (is_ready b None)) returned
+  where
+    is_ready : Bool → Option Trapping → Bool
+    is_ready returned trapped = is_some (while_running returned trapped (by_choice m s Main)) || list_any can_go s.region
 
 -- ---- what is shown is no capture area
 
@@ -116,7 +121,7 @@ covers_more new old f g more c = record {
 
 -- ---- the whole
 
-module _ (m : Module) (l : Launch) (k : ℕ) (g : Function) (there : slice_get m.functions k ≡ Some g) (sh : KernelShape g.blocks) (named : function_place m l.kernel ≡ Some k) (few : l.threads < minus_one) where
+module _ (m : Module) (l : Launch) (k : ℕ) (g : Function) (there : slice_get m.functions k ≡ Some g) (sh : KernelShape g.blocks) (named : function_place m l.kernel ≡ Some k) (quiet : CallsQuietly m) (few : l.threads < minus_one) where
   abbrev Tie : SourceState → Team → ℕ → Type 0
   Tie = Tied m l k g there sh
 
@@ -127,7 +132,7 @@ module _ (m : Module) (l : Launch) (k : ℕ) (g : Function) (there : slice_get m
   pub meets : Safe (SourceSystem m l 0) → (ds : List ℕ) (u : Team) → run (TeamStep (machine_off m)) ds (team_start (machine_off m) l) ≡ Some u →
       Meets (SourceStep m) (TeamStep (machine_off m)) (source_start m l 0) Tie 1 (source_start m l 0) (length ds) (4 * l.threads) u
   meets safe ds u e =
-      meets_run (SourceStep m) (TeamStep (machine_off m)) (source_start m l 0) Tie 1 (each_step m l k g there sh few safe) ds (source_start m l 0) (team_start (machine_off m) l) u (4 * l.threads) ([], refl) (tied_at_start m l k g there sh named) e
+      meets_run (SourceStep m) (TeamStep (machine_off m)) (source_start m l 0) Tie 1 (each_step m l k g there sh quiet few safe) ds (source_start m l 0) (team_start (machine_off m) l) u (4 * l.threads) ([], refl) (tied_at_start m l k g there sh named) e
 
   pub covered : Covers (TeamSystem m (machine_off m) l) (SourceSystem m l 0) (with_workers l.threads)
   covered = record {
@@ -147,4 +152,4 @@ module _ (m : Module) (l : Launch) (k : ℕ) (g : Function) (there : slice_get m
 pub machine_off_covers : (m : Module) (l : Launch) → HasFirstForm m → Fits m l → Covers (TeamSystem m (machine_off m) l) (SourceSystem m l 0) (Bound m l)
 machine_off_covers m l form fits =
     covers_more (TeamSystem m (machine_off m) l) (SourceSystem m l 0) (with_workers l.threads) (Bound m l) (below_bound (counted m l))
-    (covered m l fits.place fits.function fits.there (kernel_shape true m form fits.place fits.function fits.there fits.is_kernel) fits.named (few_threads l.threads fits.threads.1))
+    (covered m l fits.place fits.function fits.there (kernel_shape true m form fits.place fits.function fits.there fits.is_kernel) fits.named (quiet_first true m form) (few_threads l.threads fits.threads.1))

@@ -1,6 +1,8 @@
 pub mod Stored
 pub mod SourceRun
 pub mod TeamRun
+pub mod QuietSteps
+pub mod QuietForm
 pub mod SameNext
 pub mod AlikeMemory
 pub mod KernelShape

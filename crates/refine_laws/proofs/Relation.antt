@@ -1,17 +1,20 @@
 -- What ties a source state to a team state: the same main thread, memories that are alike, and workers on their way out.
-use Rattle.std.proofs.Common.{◌≡◌, ◌≢◌, ℕ, zero, suc, ◌+◌, ◌-◌, ◌<◌, ◌≤◌, List, [], length, Bool, true, false, Option, Some, None, refl, sym, ◌∙◌, arith, length-set}
-use Rattle.std.specs.Prelude.{slice_get, slice_set}
+use Rattle.std.proofs.Common.{◌≡◌, ◌≢◌, ℕ, zero, suc, ◌+◌, ◌-◌, ◌<◌, ◌≤◌, List, [], ◌∷◌, length, map, Bool, true, false, Option, Some, None, refl, sym, ap, ◌∙◌, arith, length-set}
+use Rattle.std.specs.Prelude.{slice_get, slice_set, if◌then◌else◌}
 use Rattle.std.specs.List.{list_all}
 use Rattle.std.proofs.lemmas.Option.{slice_get_within}
 use Rattle.ir_core.specs.declared.module.Module.{Module}
 use Rattle.ir_core.specs.declared.module.Function.{Function}
 use Rattle.mem_model.specs.declared.launch.Launch.{Launch}
+use Rattle.mem_model.specs.declared.step.Barrier.{Barrier}
+use Rattle.mem_model.specs.declared.step.Barrier.TheVariants.{Team as TeamBarrier}
 use Rattle.mem_model.specs.Memory.{Memory}
 use Rattle.mem_model.specs.Thread.{ThreadState}
-use Rattle.source_model.specs.Source.{SourceState}
+use Rattle.source_model.specs.Source.{SourceState, has_returned}
 use Rattle.team_model.specs.declared.Stand.{Stand}
 use Rattle.team_model.specs.declared.Stand.TheVariants.{Runs, Waits, Ended as Gone}
-use Rattle.team_model.specs.Team.{Team}
+use Rattle.team_model.specs.Team.{Team, is_complete, goes_again, leaves}
+use Rattle.refine_laws.proofs.QuietSteps.{RunsUser}
 use Rattle.refine_laws.proofs.AlikeMemory.{Alike}
 use Rattle.refine_laws.proofs.ListPlaces.{set_here, set_else, all_after_set, total_of, total_falls, both_set, first_set}
 use Rattle.refine_laws.proofs.KernelShape.{KernelShape}
@@ -53,13 +56,31 @@ team_moved t d v b slot = record { shared = record t.shared { common = record t.
 abbrev pub team_left : Team → ℕ → Team
 team_left t d = record t { shared = record t.shared { stands = slice_set t.shared.stands d Gone } }
 
+-- ---- a barrier that opens where no thread waits changes nothing
+
+goes_again_free : (kind : Barrier) (xs : List Stand) → list_all is_free xs ≡ true → map (goes_again kind) xs ≡ xs
+goes_again_free kind [] free = refl
+goes_again_free kind (Runs ∷ xs) free = ap (λ ys. Runs ∷ ys) (goes_again_free kind xs free)
+goes_again_free kind (Gone ∷ xs) free = ap (λ ys. Gone ∷ ys) (goes_again_free kind xs free)
+goes_again_free kind (Waits b ∷ xs) free = let f : ⊥ = cc in absurd f
+
+opened_free : (kind : Barrier) (xs : List Stand) → list_all is_free xs ≡ true → (complete : Bool) → (if complete then map (goes_again kind) xs else xs) ≡ xs
+opened_free kind xs free true = goes_again_free kind xs free
+opened_free kind xs free false = refl
+
+pub leaves_is : (t : Team) (d : ℕ) → list_all is_free t.shared.stands ≡ true → team_left t d ≡ leaves t d
+leaves_is t d free =
+    let stands = slice_set t.shared.stands d Gone in
+    ap (λ stands. record t { shared = record t.shared { stands = stands } }) (sym (opened_free TeamBarrier stands (all_after_set is_free t.shared.stands d Gone refl free) (is_complete TeamBarrier 0 stands)))
+
 module _ (m : Module) (l : Launch) (k : ℕ) (g : Function) (there : slice_get m.functions k ≡ Some g) (sh : KernelShape g.blocks) where
   pub record Tied (s : SourceState) (t : Team) (n : ℕ) : Type 0 where
     pub memory : Alike s.common.memory t.shared.common.memory
     pub prints : t.shared.common.prints ≡ s.common.prints
     pub main : slice_get t.threads l.threads ≡ Some s.main
     pub main_stand : slice_get t.shared.stands l.threads ≡ Some (stand_of s.returned)
-    pub no_region : s.region ≡ []
+    pub user : RunsUser s.main
+    pub no_region : list_all has_returned s.region ≡ true
     pub source_goes : s.trapped ≡ None
     pub team_goes : t.shared.trapped ≡ None
     pub all_free : list_all is_free t.shared.stands ≡ true
@@ -79,12 +100,13 @@ module _ (m : Module) (l : Launch) (k : ℕ) (g : Function) (there : slice_get m
   main_is_not s t n r i j h e = is_not_main s t n r i j h (sym e)
 
   -- the main thread makes a step
-  pub main_moves : (s : SourceState) (t : Team) (n : ℕ) → Tied s t n → (v : ThreadState) (a b : Memory) (slot : Option ℕ) → Alike a b → Tied (source_moved s v a) (team_moved t l.threads v b slot) n
-  main_moves s t n r v a b slot alike = record {
+  pub main_moves : (s : SourceState) (t : Team) (n : ℕ) → Tied s t n → (v : ThreadState) (a b : Memory) (slot : Option ℕ) → RunsUser v → Alike a b → Tied (source_moved s v a) (team_moved t l.threads v b slot) n
+  main_moves s t n r v a b slot user alike = record {
     memory = alike;
     prints = r.prints;
     main = set_here t.threads l.threads v s.main r.main;
     main_stand = r.main_stand;
+    user = user;
     no_region = r.no_region;
     source_goes = r.source_goes;
     team_goes = r.team_goes;
@@ -104,6 +126,7 @@ module _ (m : Module) (l : Launch) (k : ℕ) (g : Function) (there : slice_get m
     prints = r.prints;
     main = r.main;
     main_stand = set_here t.shared.stands l.threads Gone _ r.main_stand;
+    user = r.user;
     no_region = r.no_region;
     source_goes = r.source_goes;
     team_goes = r.team_goes;
@@ -128,6 +151,7 @@ module _ (m : Module) (l : Launch) (k : ℕ) (g : Function) (there : slice_get m
           prints = r.prints;
           main = set_else t.threads d l.threads _ (is_not_main s t n r d j h) ∙ r.main;
           main_stand = r.main_stand;
+          user = r.user;
           no_region = r.no_region;
           source_goes = r.source_goes;
           team_goes = r.team_goes;
@@ -151,6 +175,7 @@ module _ (m : Module) (l : Launch) (k : ℕ) (g : Function) (there : slice_get m
           prints = r.prints;
           main = r.main;
           main_stand = set_else t.shared.stands d l.threads Gone (is_not_main s t n r d 3 h) ∙ r.main_stand;
+          user = r.user;
           no_region = r.no_region;
           source_goes = r.source_goes;
           team_goes = r.team_goes;

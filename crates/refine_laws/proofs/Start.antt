@@ -1,5 +1,5 @@
 -- The first states are tied.
-use Rattle.std.proofs.Common.{◌≡◌, ℕ, zero, suc, ◌+◌, ◌*◌, List, [], ◌∷◌, ◌++◌, length, map, replicate, true, false, Some, None, refl, sym, ap, ◌∙◌, subst, arith}
+use Rattle.std.proofs.Common.{◌≡◌, ℕ, zero, suc, ◌+◌, ◌*◌, List, [], ◌∷◌, ◌++◌, length, map, replicate, true, false, Option, Some, None, refl, sym, ap, ◌∙◌, subst, arith}
 use Rattle.std.specs.Prelude.{slice_get, option_map}
 use Rattle.std.specs.FinMap as fin
 use Rattle.std.specs.FinMap.{get-insert, get-empty}
@@ -16,14 +16,15 @@ use Rattle.mem_model.specs.declared.memory.BlockName.TheVariants.{Arg as ArgBloc
 use Rattle.mem_model.specs.declared.memory.Byte.TheVariants.{Num}
 use Rattle.mem_model.specs.Blocks.{block_cmp}
 use Rattle.mem_model.specs.Memory.{Memory, no_blocks}
-use Rattle.mem_model.specs.Thread.{Answers, ThreadState}
+use Rattle.mem_model.specs.Thread.{ThreadState}
 use Rattle.ir_core.specs.Places.{function_place}
 use Rattle.mem_model.specs.Globals.{contents, with_globals}
-use Rattle.mem_model.specs.Launching.{thread_at, first_thread, with_buffer, with_buffers, first_memory, first_common}
+use Rattle.mem_model.specs.Launching.{thread_at, with_buffer, with_buffers, first_memory, first_common}
 use Rattle.mem_model.proofs.Orders.{block_total}
 use Rattle.mem_model.proofs.Runs.{none_is_not_some, some_injective}
-use Rattle.source_model.specs.Source.{source_start}
-use Rattle.team_model.specs.Team.{Team, is_spmd_function, function_at, is_spmd, worker_answers, main_answers, threads_from, first_threads, with_captures, runs_at_first, started, team_start}
+use Rattle.source_model.specs.Source.{region_threads, source_start, has_returned}
+use Rattle.team_model.specs.Team.{Team, is_spmd_function, function_at, is_spmd, answers_at, minus_one, role, worker as first_worker, main_thread, threads_from, first_threads, with_captures, runs_at_first, started, team_start}
+use Rattle.refine_laws.proofs.QuietSteps.{RunsUser}
 use Rattle.refine_laws.proofs.SameNext.{first_memory_same, first_thread_same, spmd_same}
 use Rattle.refine_laws.proofs.AlikeMemory.{captures_alike}
 use Rattle.refine_laws.proofs.ListPlaces.{total_of}
@@ -81,13 +82,13 @@ all_start_free (t ∷ ts) = all_start_free ts
 
 -- ---- the module with its machine off starts the same team
 
-threads_same : (m : Module) (l : Launch) (answers : ℕ → Answers) (t n : ℕ) → threads_from (machine_off m) l answers t n ≡ threads_from m l answers t n
-threads_same m l answers t zero = refl
-threads_same m l answers t (suc n) = λ i. first_thread_same m l t (answers t) i ∷ threads_same m l answers (t + 1) n i
+workers_same : (m : Module) (l : Launch) (t n : ℕ) → threads_from (first_worker (machine_off m) l) t n ≡ threads_from (first_worker m l) t n
+workers_same m l t zero = refl
+workers_same m l t (suc n) = λ i. first_thread_same m l (role l false t) (answers_at t 0) i ∷ workers_same m l (t + 1) n i
 
 abbrev started_with : Memory → List ThreadState → Team
 started_with memory threads = record {
-  shared = record { common = first_common (with_captures memory); heaps = 0; stands = map runs_at_first threads; slot = None; trapped = None };
+  shared = record { common = first_common (with_captures memory); stands = map runs_at_first threads; slot = None; trapped = None };
   threads = threads;
 }
 
@@ -97,35 +98,44 @@ generic_start m l = started m l (first_threads m l false)
 start_is : (m : Module) (l : Launch) → is_spmd m l ≡ false → team_start (machine_off m) l ≡ generic_start m l
 start_is m l generic =
     ap (λ spmd. started (machine_off m) l (first_threads (machine_off m) l spmd)) (spmd_same m l ∙ generic)
-    ∙ ap (started (machine_off m) l) (λ i. threads_same m l (worker_answers l) 0 l.threads i ++ first_thread_same m l l.threads main_answers i ∷ [])
+    ∙ ap (started (machine_off m) l) (λ i. workers_same m l 0 l.threads i ++ first_thread_same m l (role l false l.threads) (answers_at minus_one 0) i ∷ [])
     ∙ ap (λ memory. started_with memory (first_threads m l false)) (first_memory_same m l)
 
 -- ---- the threads of the team at the start
 
 module _ (m : Module) (l : Launch) (k : ℕ) (g : Function) (there : slice_get m.functions k ≡ Some g) (sh : KernelShape g.blocks) (named : function_place m l.kernel ≡ Some k) where
-  abbrev is_worker : (n : ℕ) → first_thread m l n (worker_answers l n) ≡ worker m l k g there sh n 0
-  is_worker n = ap (thread_at m l n (worker_answers l n)) named
+  worker_is : (n : ℕ) → first_worker m l n ≡ worker m l k g there sh n 0
+  worker_is n = ap (thread_at m l (role l false n) (answers_at n 0)) named
 
   generic : is_spmd m l ≡ false
   generic = ap (λ o. is_spmd_function (function_at m o)) named ∙ ap is_spmd_function there ∙ sh.generic
 
-  thread_count : (x : ThreadState) (n t : ℕ) → length (threads_from m l (worker_answers l) t n ++ x ∷ []) ≡ suc n
+  thread_count : (x : ThreadState) (n t : ℕ) → length (threads_from (first_worker m l) t n ++ x ∷ []) ≡ suc n
   thread_count x zero t = refl
   thread_count x (suc n) t = ap suc (thread_count x n (t + 1))
 
-  main_is_last : (x : ThreadState) (n t : ℕ) → slice_get (threads_from m l (worker_answers l) t n ++ x ∷ []) n ≡ Some x
+  main_is_last : (x : ThreadState) (n t : ℕ) → slice_get (threads_from (first_worker m l) t n ++ x ∷ []) n ≡ Some x
   main_is_last x zero t = refl
   main_is_last x (suc n) t = main_is_last x n (t + 1)
 
-  workers_begin : (x : ThreadState) (n t i j : ℕ) → slice_get (zeros n) i ≡ Some j → slice_get (threads_from m l (worker_answers l) t n ++ x ∷ []) i ≡ Some (worker m l k g there sh (t + i) j)
+  workers_begin : (x : ThreadState) (n t i j : ℕ) → slice_get (zeros n) i ≡ Some j → slice_get (threads_from (first_worker m l) t n ++ x ∷ []) i ≡ Some (worker m l k g there sh (t + i) j)
   unfolding zeros
   workers_begin x zero t i j h = none_is_not_some h
   workers_begin x (suc n) t zero j h =
-      let e : t ≡ t + 0 = omega arith in ap Some (is_worker t) ∙ ap (λ y. Some (worker m l k g there sh y 0)) e ∙ ap (λ j. Some (worker m l k g there sh (t + 0) j)) (some_injective h)
+      let e : t ≡ t + 0 = omega arith in ap Some (worker_is t) ∙ ap (λ y. Some (worker m l k g there sh y 0)) e ∙ ap (λ j. Some (worker m l k g there sh (t + 0) j)) (some_injective h)
   workers_begin x (suc n) t (suc i) j h = let e : t + 1 + i ≡ t + suc i = omega arith in workers_begin x n (t + 1) i j h ∙ ap (λ y. Some (worker m l k g there sh y j)) e
 
   abbrev first_main : ThreadState
-  first_main = first_thread m l l.threads main_answers
+  first_main = main_thread m l
+
+  main_runs_user : (o : Option ℕ) → RunsUser (thread_at m l (role l false l.threads) (answers_at minus_one 0) o)
+  main_runs_user None = (refl, tt)
+  main_runs_user (Some p) = (refl, (refl, tt))
+
+  -- no region thread has a call
+  all_idle : (n t : ℕ) → list_all has_returned (region_threads l 0 t n) ≡ true
+  all_idle zero t = refl
+  all_idle (suc n) t = all_idle n (t + 1)
 
   abbrev first_team : List ThreadState
   first_team = first_threads m l false
@@ -139,7 +149,8 @@ module _ (m : Module) (l : Launch) (k : ℕ) (g : Function) (there : slice_get m
     prints = refl;
     main = main_is_last first_main l.threads 0;
     main_stand = slice_get-map runs_at_first first_team l.threads ∙ ap (option_map runs_at_first) (main_is_last first_main l.threads 0);
-    no_region = refl;
+    user = main_runs_user (function_place m l.kernel);
+    no_region = all_idle l.threads 0;
     source_goes = refl;
     team_goes = refl;
     all_free = all_start_free first_team;
