@@ -1,11 +1,10 @@
 -- Each step of the team is met by a step of the source, or by none.
-use Rattle.std.proofs.Common.{◌≡◌, ◌≢◌, ℕ, zero, suc, ◌+◌, ◌<◌, ◌≤◌, [], ◌∷◌, length, get_or, Bool, true, false, Option, Some, None, Result, Ok, Err, refl, sym, ap, ◌∙◌, subst, arith, ◌⊎◌, inl, inr}
+use Rattle.std.proofs.Common.{◌≡◌, ◌≢◌, ℕ, ◌+◌, ◌<◌, ◌≤◌, [], ◌∷◌, length, get_or, Bool, true, false, Option, Some, None, Result, Ok, Err, refl, sym, ap, ◌∙◌, subst, arith, ◌⊎◌, inl, inr}
 use Rattle.std.specs.Prelude.{slice_get}
 use Rattle.std.specs.List.{list_all}
 use Rattle.std.proofs.lemmas.Bool.{cases_eq}
 use Rattle.std.proofs.lemmas.Option.{slice_get_within, slice_get-get_or}
 use Rattle.ir_core.specs.declared.module.Module.{Module}
-use Rattle.ir_core.specs.declared.module.Function.{Function}
 use Rattle.ir_core.specs.declared.instructions.RmwOp.{RmwOp}
 use Rattle.ir_core.specs.MachineOff.{machine_off}
 use Rattle.mem_model.specs.declared.launch.Launch.{Launch}
@@ -36,9 +35,8 @@ use Rattle.refine_laws.specs.Quiet.{CallsQuietly}
 use Rattle.refine_laws.proofs.QuietSteps.{QuietStep, quiet_next, runs_user_resumed}
 use Rattle.refine_laws.proofs.SameNext.{next_same, resumed_same}
 use Rattle.refine_laws.proofs.AlikeMemory.{load_alike, store_alike, BothStored, update_alike, BothUpdated}
-use Rattle.refine_laws.proofs.KernelShape.{KernelShape, minus_one}
-use Rattle.refine_laws.proofs.Workers.{worker, worker_does, worker_next}
-use Rattle.refine_laws.proofs.Relation.{stand_of, worker_stand, team_moved, leaves_is, Tied, main_moves, main_leaves, worker_moves, worker_leaves}
+use Rattle.refine_laws.proofs.WayOut.{WayOut, still_runs}
+use Rattle.refine_laws.proofs.Relation.{stand_of, team_moved, leaves_is, Tied, main_moves, main_leaves, worker_moves, worker_leaves}
 
 -- what a step of thread d says
 pub record Moves (m : Module) (t : Team) (d : ℕ) (u : Team) : Type 0 where
@@ -74,12 +72,15 @@ runs_is_not_gone : (b : Bool) → Some (stand_of b) ≡ Some Runs → b ≡ fals
 runs_is_not_gone true e = let f : ⊥ = cc in absurd f
 runs_is_not_gone false e = refl
 
-module _ (m : Module) (l : Launch) (k : ℕ) (g : Function) (there : slice_get m.functions k ≡ Some g) (sh : KernelShape g.blocks) (quiet : CallsQuietly m) (few : l.threads < minus_one) (safe : Safe (SourceSystem m l 0)) where
+before_or_last : (j last : ℕ) → j ≤ last → (j < last) ⊎ (j ≡ last)
+before_or_last j last h = elim (cases_eq j last) [ inl same ↦ inr same | inr apart ↦ inl (omega arith) ]
+
+module _ (m : Module) (l : Launch) (last : ℕ) (way : WayOut (machine_off m) l last) (quiet : CallsQuietly m) (safe : Safe (SourceSystem m l 0)) where
   abbrev out : Module
   out = machine_off m
 
   abbrev Tie : SourceState → Team → ℕ → Type 0
-  Tie = Tied m l k g there sh
+  Tie = Tied m l last way
 
   abbrev start : SourceState
   start = source_start m l 0
@@ -106,7 +107,7 @@ module _ (m : Module) (l : Launch) (k : ℕ) (g : Function) (there : slice_get m
   load_met s t u n r tie goes p c is (Ok v) h (inl f) e = let x : ⊥ = cc in absurd x
   load_met s t u n r tie goes p c is (Ok v) h (inr same) e =
       met s _ _ u n (source_moves m s _ (Pending (Does (Loads p c))) goes tie.source_goes tie.no_region is (ap (λ o. Some (source.acts m s Main s.main (loaded s.common o))) h))
-      (main_moves m l k g there sh s t n tie (resumed m s.main (Some v)) s.common.memory t.shared.common.memory t.shared.slot (runs_user_resumed m s.main tie.user (Some v)) tie.memory)
+      (main_moves m l last way s t n tie (resumed m s.main (Some v)) s.common.memory t.shared.common.memory t.shared.slot (runs_user_resumed m s.main tie.user (Some v)) tie.memory)
       (ap (λ x. team_moved t l.threads x t.shared.common.memory t.shared.slot) (sym (resumed_same m s.main (Some v))) ∙ sym (ap (λ o. team.acts out t l.threads s.main (loaded t.shared.common o)) (same ∙ h)) ∙ e)
 
   store_met : (s : SourceState) (t u : Team) (n : ℕ) → Reaches s → Tie s t n → s.returned ≡ false → (p : Ptr) (c : Cell) (v : Given) → Next m s.main ≡ Pending (Does (Stores p c v)) → (a b : Result Memory Trap) → Store s.common.memory p c v ≡ a →
@@ -117,7 +118,7 @@ module _ (m : Module) (l : Launch) (k : ℕ) (g : Function) (there : slice_get m
   store_met s t u n r tie goes p c v is (Ok a) (Err f) h (inr x) e = absurd x
   store_met s t u n r tie goes p c v is (Ok a) (Ok b) h (inr alike) e =
       met s _ _ u n (source_moves m s _ (Pending (Does (Stores p c v))) goes tie.source_goes tie.no_region is (ap (λ o. Some (source.acts m s Main s.main (stored s.common o))) h))
-      (main_moves m l k g there sh s t n tie (resumed m s.main None) a b t.shared.slot (runs_user_resumed m s.main tie.user None) alike)
+      (main_moves m l last way s t n tie (resumed m s.main None) a b t.shared.slot (runs_user_resumed m s.main tie.user None) alike)
       (ap (λ x. team_moved t l.threads x b t.shared.slot) (sym (resumed_same m s.main None)) ∙ e)
 
   update_met : (s : SourceState) (t u : Team) (n : ℕ) → Reaches s → Tie s t n → s.returned ≡ false → (p : Ptr) (width : ℕ) (op : RmwOp) (v : ℕ) → Next m s.main ≡ Pending (Does (Updates p width op v)) → (a b : Result Updated Trap) →
@@ -128,20 +129,20 @@ module _ (m : Module) (l : Launch) (k : ℕ) (g : Function) (there : slice_get m
   update_met s t u n r tie goes p width op v is (Ok a) (Err f) h (inr x) e = absurd x
   update_met s t u n r tie goes p width op v is (Ok a) (Ok b) h (inr alike) e =
       met s _ _ u n (source_moves m s _ (Pending (Does (Updates p width op v))) goes tie.source_goes tie.no_region is (ap (λ o. Some (source.acts m s Main s.main (changed s.common o))) h))
-      (main_moves m l k g there sh s t n tie (resumed m s.main (Some (Int a.old))) a.memory b.memory t.shared.slot (runs_user_resumed m s.main tie.user (Some (Int a.old))) alike.0)
+      (main_moves m l last way s t n tie (resumed m s.main (Some (Int a.old))) a.memory b.memory t.shared.slot (runs_user_resumed m s.main tie.user (Some (Int a.old))) alike.0)
       (ap (λ x. team_moved t l.threads x b.memory t.shared.slot) (ap (λ old. resumed m s.main (Some (Int old))) (sym alike.1) ∙ sym (resumed_same m s.main (Some (Int b.old)))) ∙ e)
 
   main_steps : (s : SourceState) (t u : Team) (n : ℕ) → Reaches s → Tie s t n → s.returned ≡ false → (nx : NextStep) → QuietStep nx → Next m s.main ≡ nx → by_next out t l.threads s.main nx ≡ Some u → IsMet s 1 n u
   main_steps s t u n r tie goes (Local v) q is e =
-      met s _ _ u n (source_moves m s _ (Local v) goes tie.source_goes tie.no_region is refl) (main_moves m l k g there sh s t n tie v s.common.memory t.shared.common.memory t.shared.slot q tie.memory) (some_injective e)
+      met s _ _ u n (source_moves m s _ (Local v) goes tie.source_goes tie.no_region is refl) (main_moves m l last way s t n tie v s.common.memory t.shared.common.memory t.shared.slot q tie.memory) (some_injective e)
   main_steps s t u n r tie goes Done q is e = none_is_not_some e
   main_steps s t u n r tie goes (Trapped x) q is e = no_trap s r x (source_moves m s _ (Trapped x) goes tie.source_goes tie.no_region is refl)
   main_steps s t u n r tie goes (Pending Deinit) q is e =
       let slot = slot_after_deinit s.main t.shared.slot in
-      met s _ _ u n (source_moves m s _ (Pending Deinit) goes tie.source_goes tie.no_region is refl) (main_moves m l k g there sh s t n tie (resumed m s.main None) s.common.memory t.shared.common.memory slot (runs_user_resumed m s.main tie.user None) tie.memory)
+      met s _ _ u n (source_moves m s _ (Pending Deinit) goes tie.source_goes tie.no_region is refl) (main_moves m l last way s t n tie (resumed m s.main None) s.common.memory t.shared.common.memory slot (runs_user_resumed m s.main tie.user None) tie.memory)
       (ap (λ x. team_moved t l.threads x t.shared.common.memory slot) (sym (resumed_same m s.main None)) ∙ some_injective e)
   main_steps s t u n r tie goes (Pending Leaves) q is e =
-      met s _ _ u n (source_moves m s _ (Pending Leaves) goes tie.source_goes tie.no_region is refl) (main_leaves m l k g there sh s t n tie) (leaves_is t l.threads tie.all_free ∙ some_injective e)
+      met s _ _ u n (source_moves m s _ (Pending Leaves) goes tie.source_goes tie.no_region is refl) (main_leaves m l last way s t n tie) (leaves_is t l.threads tie.all_free ∙ some_injective e)
   main_steps s t u n r tie goes (Pending (Does (Loads p c))) q is e =
       load_met s t u n r tie goes p c is (Load s.common.memory p c) refl (load_alike s.common.memory t.shared.common.memory tie.memory p c) (some_injective e)
   main_steps s t u n r tie goes (Pending (Does (Stores p c v))) q is e =
@@ -161,12 +162,12 @@ module _ (m : Module) (l : Launch) (k : ℕ) (g : Function) (there : slice_get m
   waits : (s : SourceState) (t u : Team) (n : ℕ) → (after : ℕ) × (1 + after ≤ n) × Tie s t after → t ≡ u → IsMet s 1 n u
   waits s t u n a e = record { choices = []; state = s; paid_after = a.0; runs = refl; alike = subst (λ x. Tie s x a.0) e a.2; pays = omega (arith, a.1) }
 
-  worker_steps : (s : SourceState) (t u : Team) (n : ℕ) (tie : Tie s t n) (d j : ℕ) → slice_get tie.stages d ≡ Some j → Some (worker_stand j) ≡ Some Runs → by_next out t d (worker m l k g there sh d j) (worker_does m l k g there sh d j) ≡ Some u → IsMet s 1 n u
-  worker_steps s t u n tie d zero h st e = waits s _ u n (worker_moves m l k g there sh s t n tie d 0 h (omega arith)) (some_injective e)
-  worker_steps s t u n tie d (suc zero) h st e = waits s _ u n (worker_moves m l k g there sh s t n tie d 1 h (omega arith)) (some_injective e)
-  worker_steps s t u n tie d (suc (suc zero)) h st e = waits s _ u n (worker_moves m l k g there sh s t n tie d 2 h (omega arith)) (some_injective e)
-  worker_steps s t u n tie d (suc (suc (suc zero))) h st e = waits s _ u n (worker_leaves m l k g there sh s t n tie d h) (leaves_is t d tie.all_free ∙ some_injective e)
-  worker_steps s t u n tie d (suc (suc (suc (suc j)))) h st e = let x : ⊥ = cc in absurd x
+  -- a worker that has not left moves on, or leaves
+  worker_steps : (s : SourceState) (t u : Team) (n : ℕ) (tie : Tie s t n) (d j : ℕ) → d < l.threads → slice_get tie.stages d ≡ Some j → by_next out t d (way.state d j) (Next out (way.state d j)) ≡ Some u → (j < last) ⊎ (j ≡ last) → IsMet s 1 n u
+  worker_steps s t u n tie d j low h e (inl before) = waits s _ u n (worker_moves m l last way s t n tie d j h before) (some_injective (ap (by_next out t d (way.state d j)) (sym (way.goes d j low before)) ∙ e))
+  worker_steps s t u n tie d j low h e (inr same) =
+      let step : by_next out t d (way.state d last) (Next out (way.state d last)) ≡ Some u = ap (λ i. by_next out t d (way.state d i) (Next out (way.state d i))) (sym same) ∙ e in
+      waits s _ u n (worker_leaves m l last way s t n tie d (h ∙ ap Some same)) (leaves_is t d tie.all_free ∙ some_injective (ap (by_next out t d (way.state d last)) (sym (way.leaves d low)) ∙ step))
 
   main_meets : (s : SourceState) (t u : Team) (d n : ℕ) → Reaches s → Tie s t n → (mv : Moves out t d u) → d ≡ l.threads → IsMet s 1 n u
   main_meets s t u d n r tie mv is =
@@ -176,22 +177,15 @@ module _ (m : Module) (l : Launch) (k : ℕ) (g : Function) (there : slice_get m
       let at_main : by_next out t l.threads s.main (Next m s.main) ≡ Some u = ap (λ i. by_next out t i s.main (Next m s.main)) (sym is) ∙ ap (by_next out t d s.main) (sym (next_same m s.main tie.user)) ∙ next in
       main_steps s t u n r tie goes (Next m s.main) (quiet_next m quiet s.main tie.user) refl at_main
 
-  is_below : (d : ℕ) → d < l.threads → d < minus_one
-  is_below d low = below d l.threads minus_one low few
-    where
-      below : (a b c : ℕ) → a < b → b < c → a < c
-      below a b c p q = omega arith
-
   worker_meets : (s : SourceState) (t u : Team) (d n : ℕ) → (tie : Tie s t n) → (mv : Moves out t d u) → d ≢ l.threads → IsMet s 1 n u
   worker_meets s t u d n tie mv apart =
       let within : d < length t.threads = slice_get_within t.threads d mv.thread mv.at in
       let low : d < l.threads = omega (arith, tie.count) in
       let j : ℕ = get_or tie.stages d 0 in
       let at : slice_get tie.stages d ≡ Some j = slice_get-get_or tie.stages d 0 (omega (arith, tie.stage_count)) in
-      let same : mv.thread ≡ worker m l k g there sh d j = some_injective (sym mv.at ∙ tie.workers d j at) in
-      let does_is : by_next out t d (worker m l k g there sh d j) (worker_does m l k g there sh d j) ≡ Some u =
-      ap (by_next out t d (worker m l k g there sh d j)) (sym (worker_next m l k g there sh d j (is_below d low))) ∙ ap (λ x. by_next out t d x (Next out x)) (sym same) ∙ mv.next in
-      worker_steps s t u n tie d j at (sym (tie.worker_stands d j at) ∙ mv.stand) does_is
+      let same : mv.thread ≡ way.state d j = some_injective (sym mv.at ∙ tie.workers d j at) in
+      let runs : j ≤ last = still_runs last j (sym (tie.worker_stands d j at) ∙ mv.stand) in
+      worker_steps s t u n tie d j low at (ap (λ x. by_next out t d x (Next out x)) (sym same) ∙ mv.next) (before_or_last j last runs)
 
   pub each_step : MeetsEach (SourceStep m) (TeamStep out) start Tie 1
   each_step s t u d n r tie e =

@@ -7,6 +7,7 @@ pub mod SameNext
 pub mod AlikeMemory
 pub mod KernelShape
 pub mod ListPlaces
+pub mod WayOut
 pub mod Workers
 pub mod Relation
 pub mod EachStep

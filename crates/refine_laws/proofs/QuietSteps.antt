@@ -53,25 +53,24 @@ quiet_at names (y ∷ ys) zero x e h = ap (λ z. list_all is_quiet_name (names z
 quiet_at names (y ∷ ys) (suc n) x e h = quiet_at names ys n x (all_parts (names y) (flat_map names ys) e).1 h
 
 -- an instruction, where there is one, calls quietly
-abbrev QuietInst : Option Inst → Type 0
+abbrev pub QuietInst : Option Inst → Type 0
 QuietInst None = Unit {0}
 QuietInst (Some i) = list_all is_quiet_name (inst_callees i) ≡ true
 
-module _ (m : Module) (quiet : CallsQuietly m) where
-  inst_quiet : (b : Block) (i : ℕ) (o : Option Inst) → slice_get b.insts i ≡ o → list_all is_quiet_name (block_callees b) ≡ true → QuietInst o
-  inst_quiet b i None is h = tt
-  inst_quiet b i (Some x) is h = quiet_at inst_callees b.insts i x h is
+inst_quiet : (b : Block) (i : ℕ) (o : Option Inst) → slice_get b.insts i ≡ o → list_all is_quiet_name (block_callees b) ≡ true → QuietInst o
+inst_quiet b i None is h = tt
+inst_quiet b i (Some x) is h = quiet_at inst_callees b.insts i x h is
 
-  block_quiet : (f : Function) (b i : ℕ) (o : Option Block) → slice_get f.blocks b ≡ o → list_all is_quiet_name (callees f) ≡ true → QuietInst (inst_in o i)
-  block_quiet f b i None is h = tt
-  block_quiet f b i (Some x) is h = inst_quiet x i (slice_get x.insts i) refl (quiet_at block_callees f.blocks b x h is)
+block_quiet : (f : Function) (b i : ℕ) (o : Option Block) → slice_get f.blocks b ≡ o → list_all is_quiet_name (callees f) ≡ true → QuietInst (inst_in o i)
+block_quiet f b i None is h = tt
+block_quiet f b i (Some x) is h = inst_quiet x i (slice_get x.insts i) refl (quiet_at block_callees f.blocks b x h is)
 
-  function_quiet : (k b i : ℕ) (o : Option Function) → slice_get m.functions k ≡ o → QuietInst (inst_in (block_in o b) i)
-  function_quiet k b i None is = tt
-  function_quiet k b i (Some f) is = block_quiet f b i (slice_get f.blocks b) refl (quiet_at callees m.functions k f quiet is)
+function_quiet : (fs : List Function) (k b i : ℕ) (o : Option Function) → slice_get fs k ≡ o → list_all is_quiet_name (flat_map callees fs) ≡ true → QuietInst (inst_in (block_in o b) i)
+function_quiet fs k b i None is h = tt
+function_quiet fs k b i (Some f) is h = block_quiet f b i (slice_get f.blocks b) refl (quiet_at callees fs k f h is)
 
-  quiet_inst_at : (p : Place) → QuietInst (inst_at m p)
-  quiet_inst_at p = function_quiet p.function p.block p.index (slice_get m.functions p.function) refl
+pub quiet_inst_at : (m : Module) → CallsQuietly m → (p : Place) → QuietInst (inst_at m p)
+quiet_inst_at m quiet p = function_quiet m.functions p.function p.block p.index (slice_get m.functions p.function) refl quiet
 
 -- ---- threads that run user code
 

@@ -1,5 +1,5 @@
 -- What a worker does in a kernel whose machine is off: it asks, tests, branches and leaves.
-use Rattle.std.proofs.Common.{◌≡◌, ◌<◌, ℕ, zero, suc, List, [], ◌∷◌, length, cond, Some, None, refl, ap, ◌∙◌}
+use Rattle.std.proofs.Common.{◌≡◌, ◌<◌, ℕ, zero, suc, List, [], ◌∷◌, length, cond, Some, None, refl, ap, ◌∙◌, arith}
 use Rattle.std.specs.Prelude.{false, option_map, slice_get}
 use Rattle.std.proofs.lemmas.Slice.Eq.{bytes_eq-Decides}
 use Rattle.ir_core.specs.declared.module.Module.{Module}
@@ -10,11 +10,12 @@ use Rattle.mem_model.specs.declared.memory.Word.{Word}
 use Rattle.mem_model.specs.declared.memory.Word.TheVariants.{Int}
 use Rattle.mem_model.specs.declared.phase.Phase.TheVariants.{Begins}
 use Rattle.mem_model.specs.Thread.{Name, Place, Registers, Frame, ThreadState, assigned}
-use Rattle.ir_core.specs.Places.{inst_at, block_in, inst_in, labels_of, place_in, PhiNode, phis_in, label_at}
+use Rattle.ir_core.specs.Places.{inst_at, function_place, block_in, inst_in, labels_of, place_in, PhiNode, phis_in, label_at}
 use Rattle.mem_model.specs.Next.{NextStep, Local, Pending, Leaves, with_found, with_phis, enters, to_block, next_inst, Next}
-use Rattle.mem_model.specs.Launching.{first_registers}
-use Rattle.team_model.specs.Team.{answers_at}
-use Rattle.refine_laws.proofs.SameNext.{to_label_same, inst_at_off}
+use Rattle.mem_model.specs.Launching.{first_registers, thread_at}
+use Rattle.team_model.specs.Team.{answers_at, role}
+use Rattle.refine_laws.proofs.WayOut.{WayOut}
+use Rattle.refine_laws.proofs.SameNext.{to_label_same, inst_at_off, first_thread_same}
 use Rattle.refine_laws.proofs.KernelShape.{KernelShape, minus_one}
 
 -- a name is found where it was just put
@@ -79,3 +80,19 @@ module _ (m : Module) (l : Launch) (k : ℕ) (g : Function) (there : slice_get m
       ∙ ap (to_block m (worker n 2) (worker_frame n 2) []) sh.exit_place
       ∙ ap (arrives n) (ap (λ o. phis_in (block_in o 2)) there ∙ sh.no_phis)
   worker_next n (suc (suc (suc j))) low = stands_at n (suc (suc (suc j))) 2 0 refl ∙ sh.returns out (worker n (suc (suc (suc j)))) (worker_frame n (suc (suc (suc j))))
+
+  -- a worker of such a kernel is on its way out from the start
+  pub way_out : function_place m l.kernel ≡ Some k → l.threads < minus_one → WayOut out l 3
+  way_out named few = record {
+    state = worker;
+    begins = λ i. first_thread_same m l (role l false i) (answers_at i 0) ∙ ap (thread_at m l (role l false i) (answers_at i 0)) named;
+    goes = goes;
+    leaves = λ i low. worker_next i 3 (omega arith);
+    stays = λ i. refl;
+  }
+    where
+      goes : (i j : ℕ) → i < l.threads → j < 3 → Next out (worker i j) ≡ Local (worker i (suc j))
+      goes i zero low h = worker_next i 0 (omega arith)
+      goes i (suc zero) low h = worker_next i 1 (omega arith)
+      goes i (suc (suc zero)) low h = worker_next i 2 (omega arith)
+      goes i (suc (suc (suc j))) low h = absurd (omega arith)
