@@ -17,11 +17,8 @@ use Rattle.ir_core.specs.Places.{Name}
 use Rattle.ir_core.specs.Wrappers.{value_names, kind_callees, inst_callees, block_callees, callees}
 use Rattle.ir_core.specs.FirstForm
 use Rattle.ir_core.specs.FirstForm.{is_function, is_int_of, is_init_operands, is_init_kind, is_test_kind, is_branch_kind, is_branch, by_test, by_init, is_entry, is_user_kind, is_user_inst, is_deinit_operands, is_deinit_kind, is_deinit, is_return_kind, is_return, is_end, user_code, is_user, is_exit, are_kernel_blocks, is_kernel, is_void, is_well_formed, are_functions, is_first_form}
-use Rattle.refine_laws.specs.Quiet.{is_quiet_name, CallsQuietly}
+use Rattle.refine_laws.specs.Quiet.{is_quiet_name, AllQuiet, CallsQuietly}
 use Rattle.refine_laws.proofs.QuietSteps.{all_parts}
-
-abbrev AllQuiet : List Name → Type 0
-AllQuiet xs = list_all is_quiet_name xs ≡ true
 
 all_quiet_both : (xs ys : List Name) → AllQuiet xs → AllQuiet ys → AllQuiet (xs ++ ys)
 all_quiet_both [] ys p q = q

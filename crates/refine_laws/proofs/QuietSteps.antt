@@ -35,11 +35,11 @@ use Rattle.mem_model.specs.Entries.{is_worker, runs_loop, begins_kernel, next_en
 use Rattle.mem_model.specs.Next.{Action, Loads, Stores, Updates, Event, Does, Deinit, Leaves, NextStep, Local, Trapped, with_found, with_number, with_pointer, with_result, with_scalar, with_frames, goes_on, goes_in, enters, to_block, to_label, loads, stores, updates, allocates, entry_of, with_body, defined_as, defined_at, entry_or, callee_of, called, next_call, goes_back, back_in, returns, next_kind, next_inst, next_in, next_frames, Next, resumed_frames, resumed}
 use Rattle.mem_model.proofs.Runs.{some_injective, none_is_not_some}
 use Rattle.mem_model.proofs.StepCases.{LeadsTo, if_found, if_number, if_pointer, if_result, if_either, if_scalar}
-use Rattle.refine_laws.specs.Quiet.{is_quiet, is_quiet_name, CallsQuietly}
+use Rattle.refine_laws.specs.Quiet.{is_quiet, is_quiet_name, AllQuiet, CallsQuietly}
 
 -- ---- what the instruction at a place calls
 
-pub all_parts : (xs ys : List Name) → list_all is_quiet_name (xs ++ ys) ≡ true → (list_all is_quiet_name xs ≡ true) × (list_all is_quiet_name ys ≡ true)
+pub all_parts : (xs ys : List Name) → AllQuiet (xs ++ ys) → (AllQuiet xs) × (AllQuiet ys)
 all_parts [] ys e = (refl, e)
 all_parts (x ∷ xs) ys e =
     let p = and_parts (is_quiet_name x) (list_all is_quiet_name (xs ++ ys)) e in
@@ -47,7 +47,7 @@ all_parts (x ∷ xs) ys e =
     (and_from (is_quiet_name x) (list_all is_quiet_name xs) p.0 q.0, q.1)
 
 -- the names of one element, where all names of a list are quiet
-quiet_at : {A : Type 0} (names : A → List Name) (xs : List A) (n : ℕ) (x : A) → list_all is_quiet_name (flat_map names xs) ≡ true → slice_get xs n ≡ Some x → list_all is_quiet_name (names x) ≡ true
+quiet_at : {A : Type 0} (names : A → List Name) (xs : List A) (n : ℕ) (x : A) → AllQuiet (flat_map names xs) → slice_get xs n ≡ Some x → AllQuiet (names x)
 quiet_at names [] n x e h = none_is_not_some h
 quiet_at names (y ∷ ys) zero x e h = ap (λ z. list_all is_quiet_name (names z)) (sym (some_injective h)) ∙ (all_parts (names y) (flat_map names ys) e).0
 quiet_at names (y ∷ ys) (suc n) x e h = quiet_at names ys n x (all_parts (names y) (flat_map names ys) e).1 h
@@ -55,17 +55,17 @@ quiet_at names (y ∷ ys) (suc n) x e h = quiet_at names ys n x (all_parts (name
 -- an instruction, where there is one, calls quietly
 abbrev pub QuietInst : Option Inst → Type 0
 QuietInst None = Unit {0}
-QuietInst (Some i) = list_all is_quiet_name (inst_callees i) ≡ true
+QuietInst (Some i) = AllQuiet (inst_callees i)
 
-inst_quiet : (b : Block) (i : ℕ) (o : Option Inst) → slice_get b.insts i ≡ o → list_all is_quiet_name (block_callees b) ≡ true → QuietInst o
+inst_quiet : (b : Block) (i : ℕ) (o : Option Inst) → slice_get b.insts i ≡ o → AllQuiet (block_callees b) → QuietInst o
 inst_quiet b i None is h = tt
 inst_quiet b i (Some x) is h = quiet_at inst_callees b.insts i x h is
 
-block_quiet : (f : Function) (b i : ℕ) (o : Option Block) → slice_get f.blocks b ≡ o → list_all is_quiet_name (callees f) ≡ true → QuietInst (inst_in o i)
+block_quiet : (f : Function) (b i : ℕ) (o : Option Block) → slice_get f.blocks b ≡ o → AllQuiet (callees f) → QuietInst (inst_in o i)
 block_quiet f b i None is h = tt
 block_quiet f b i (Some x) is h = inst_quiet x i (slice_get x.insts i) refl (quiet_at block_callees f.blocks b x h is)
 
-function_quiet : (fs : List Function) (k b i : ℕ) (o : Option Function) → slice_get fs k ≡ o → list_all is_quiet_name (flat_map callees fs) ≡ true → QuietInst (inst_in (block_in o b) i)
+function_quiet : (fs : List Function) (k b i : ℕ) (o : Option Function) → slice_get fs k ≡ o → AllQuiet (flat_map callees fs) → QuietInst (inst_in (block_in o b) i)
 function_quiet fs k b i None is h = tt
 function_quiet fs k b i (Some f) is h = block_quiet f b i (slice_get f.blocks b) refl (quiet_at callees fs k f h is)
 
@@ -170,7 +170,7 @@ module _ (m : Module) (t : ThreadState) (user : is_worker t ≡ false) (f : Fram
   quiet_callee x operands y None q = quiet_defined x operands (function_place m y)
   quiet_callee x operands y (Some r) q = quiet_entry x operands r q
 
-  quiet_call : (x : Option Name) (operands : List Typed) (v : Value) → list_all is_quiet_name (value_names v) ≡ true → QuietStep (next_call m t f rest x operands (callee_of m v))
+  quiet_call : (x : Option Name) (operands : List Typed) (v : Value) → AllQuiet (value_names v) → QuietStep (next_call m t f rest x operands (callee_of m v))
   quiet_call x operands (GlobalValue y) q = quiet_callee x operands y (entry_of y) (and_parts (is_quiet_name y) _ q).0
   quiet_call x operands _ q = tt
 
@@ -194,7 +194,7 @@ quiet_returns t user [] h back word = tt
 quiet_returns t user (f ∷ rest) h back word = subst (λ p. QuietStep (Local (back_in p t f rest back word))) (sym h.0) (quiet_back t user f rest h.1 back word)
 
 module _ (m : Module) (t : ThreadState) (user : is_worker t ≡ false) (f : Frame) (rest : List Frame) (h : AllBegin (f ∷ rest)) where
-  quiet_kind : (x : Option Name) (k : Kind) → list_all is_quiet_name (kind_callees k) ≡ true → QuietStep (next_kind m t f rest x k)
+  quiet_kind : (x : Option Name) (k : Kind) → AllQuiet (kind_callees k) → QuietStep (next_kind m t f rest x k)
   quiet_kind x (Bin op flags ty a b) q = search (quiet_found, quiet_number, quiet_on m t user f rest h) depth 12
   quiet_kind x (ICmp pred ty a b) q = search (quiet_found, quiet_result, quiet_on m t user f rest h)
   quiet_kind x (Cast op from to) q = search (quiet_found, quiet_scalar, quiet_on m t user f rest h)
