@@ -1,12 +1,11 @@
 -- A thread's next step, of each instruction that reads or changes more than one thing.
-use Rattle.std.proofs.Common.{◌≡◌, ℕ, suc, ◌+◌, ◌≤◌, ℤ, pos, List, [], ◌∷◌, ◌++◌, length, map, replicate, Bool, true, false, cond, ◌&&◌, Option, Some, None, Result, Ok, Err, refl, sym, ap, ◌∙◌, subst, arith}
-use Rattle.std.specs.Prelude.{All, ◌==◌, nat_le, if◌then◌else◌}
+use Rattle.std.proofs.Common.{◌≡◌, ℕ, zero, suc, ◌+◌, ◌≤◌, ℤ, pos, List, [], ◌∷◌, ◌++◌, length, map, replicate, Bool, true, false, cond, ◌&&◌, Option, Some, None, Result, Ok, Err, refl, sym, ap, ◌∙◌, subst, arith}
+use Rattle.std.specs.Prelude.{All, ◌==◌, nat_le, is_some, if◌then◌else◌}
 use Rattle.std.specs.Str.{bytes_eq}
 use Rattle.std.specs.FinMap as fin
 use Rattle.std.proofs.lemmas.Bool.{and_parts, le-leb, eq-eqb, eqb-true, false_from_ne_true}
 use Rattle.std.proofs.lemmas.Slice.Eq.{bytes_eq-Decides}
 use Rattle.ir_core.specs.declared.types.Ty.{Ty}
-use Rattle.ir_core.specs.FirstForm.{is_scalar}
 use Rattle.ir_core.specs.declared.instructions.Value.{Value}
 use Rattle.ir_core.specs.declared.instructions.Value.TheVariants.{Int as IntValue, Null, Local as Register, Global as GlobalValue}
 use Rattle.ir_core.specs.declared.instructions.Typed.{Typed}
@@ -16,9 +15,11 @@ use Rattle.ir_core.specs.declared.instructions.Kind.{Kind}
 use Rattle.ir_core.specs.declared.instructions.Kind.TheVariants.{Bin, ICmp, Cast, Select, Phi, Alloca, Load as LoadInst, Store as StoreInst, Rmw, Gep, Fence, Call, Br, CondBr, Switch, Ret, Unreachable as UnreachableInst}
 use Rattle.ir_core.specs.declared.instructions.Inst.{Inst}
 use Rattle.ir_core.specs.declared.module.Module.{Module}
+use Rattle.ir_core.specs.declared.rtl.Rtl.{Rtl}
+use Rattle.ir_core.specs.declared.rtl.Rtl.TheVariants.{TargetInit, TargetDeinit, Parallel, AllocShared, FreeShared, GetSharedVariables, Barrier as RegionBarrier, GlobalThreadNum, ThreadNum, NumThreads, Level, ParallelLevel, InParallel, IsSpmdExecMode, ForStaticInit, ForStaticFini, Print, KernelEndParallel, HardwareThreadId}
 use Rattle.ir_core.specs.Layout.{Size}
 use Rattle.mem_model.specs.declared.memory.BlockName.{BlockName}
-use Rattle.mem_model.specs.declared.memory.BlockName.TheVariants.{Stack}
+use Rattle.mem_model.specs.declared.memory.BlockName.TheVariants.{Stack, Captures}
 use Rattle.mem_model.specs.declared.memory.Ptr.{Ptr}
 use Rattle.mem_model.specs.declared.memory.Ptr.TheVariants.{Num as Number, At}
 use Rattle.mem_model.specs.declared.memory.Byte.{Byte}
@@ -26,23 +27,34 @@ use Rattle.mem_model.specs.declared.memory.Byte.TheVariants.{Num}
 use Rattle.mem_model.specs.declared.memory.Word.{Word}
 use Rattle.mem_model.specs.declared.memory.Word.TheVariants.{Int, Ptr as Address}
 use Rattle.mem_model.specs.declared.memory.Cell.{Cell}
+use Rattle.mem_model.specs.declared.memory.Cell.TheVariants.{Int as IntCell, Ptr as PtrCell}
 use Rattle.mem_model.specs.declared.step.Trap.{Trap}
-use Rattle.mem_model.specs.declared.step.Trap.TheVariants.{Constant, TooLarge, Unreachable}
-use Rattle.mem_model.specs.Words.{cell_size, word_in}
+use Rattle.mem_model.specs.declared.step.Trap.TheVariants.{Constant, TooLarge, NotStack, Division}
+use Rattle.mem_model.specs.Words.{cell_size, number_bytes, word_in}
 use Rattle.mem_model.specs.Memory.{Memory, Shares, access, unless, bytes_at, load_from, store_to, Load, Store, block_limit}
-use Rattle.mem_model.specs.Thread.{Name, Place, Registers, Code, Frame, ThreadState, Spot, Where, InStack, Elsewhere, assigned, same_spot, find_block, or_else, find_in, put_block, put_in}
+use Rattle.mem_model.specs.declared.phase.LoopPoint.{LoopPoint}
+use Rattle.mem_model.specs.declared.phase.LoopPoint.TheVariants.{Considers, HasWorked, EndsRegion, HasEnded, HasRested}
+use Rattle.mem_model.specs.declared.phase.Phase.{Phase}
+use Rattle.mem_model.specs.declared.phase.Phase.TheVariants.{Begins, Gathered, InRegion, Loops}
+use Rattle.mem_model.specs.Thread.{Name, Place, Registers, Code, Frame, ThreadState, Spot, Where, InStack, Elsewhere, where_is, assigned, same_spot, find_block, or_else, find_in, put_block, put_in, store_own}
 use Rattle.ir_core.specs.Places.{labels, function_place, place_in, PhiNode, edge_from, label_at, inst_at}
-use Rattle.mem_model.specs.Values.{register_word, value_word, operand, and_then}
+use Rattle.mem_model.specs.Values.{register_word, value_word, operand, operand_words, and_then}
+use Rattle.mem_model.specs.Eval.{signed}
+use Rattle.mem_model.specs.Regions.{Fork, fork_of, words_operand, captured, words_formed, in_region}
+use Rattle.mem_model.specs.Schedules.{Turns}
+use Rattle.mem_model.specs.Entries.{is_worker, runs_loop, forks, put_own, get_own, releases, Slots, int32, truth_word, put_bounds, put_turns, schedules, starts_loop, next_known, next_entry, work_word}
+use Rattle.mem_model.specs.Work.{stores_work, answers_kind, answers_call, answers_in, answers_frames, next_loop}
 use Rattle.mem_model.specs.Update.{Updated, update_number, update_at}
-use Rattle.mem_model.specs.Next.{NextStep, Local, Trapped, with_found, with_number, with_pointer, with_result, with_scalar, with_frames, code_on, goes_on, phi_word, with_phis, enters, to_block, to_label, is_case, case_for, loads, stores, updates, allocates, Callee, CallsInit, CallsDeinit, CallsFunction, CallsOther, callee_of, called, next_call, returns, next_kind, next_inst, next_frames, Next, resumed_frames}
+use Rattle.mem_model.specs.Next.{NextStep, Local, Trapped, with_found, with_number, with_pointer, with_result, with_scalar, with_frames, code_on, code_past, goes_on, goes_past, in_phase, result_of, phi_word, with_phis, enters, to_block, to_label, is_case, case_for, loads, stores, updates, allocates, Callee, CallsEntry, CallsFunction, CallsOther, callee_of, called, next_call, goes_back, back_in, returns, next_kind, next_inst, enters_region, enters_kind, enters_at, next_in, next_frames, Next, resumed_frames, arrived_frames}
 use Rattle.mem_model.specs.Launching.{thread_at}
 use Rattle.mem_laws.specs.StepLaws.{StandsAt, IsNot, PhisSwap, SwitchFirst, SwitchOther, CallBegins, ReturnGoesBack, CallReturns, ReturnLeaves, AllocaMakes, HasNoNewer, FirstThreadIsNew, NamesAreNew, AllocaEnds, UpdateInOne, UpdateOfConstant}
+use Rattle.mem_model.proofs.StepCases.{LeadsTo, if_found, if_number, if_pointer, if_result, if_either, if_scalar}
 use Rattle.mem_model.proofs.AccessTests.{begin, in_block}
 use Rattle.mem_model.proofs.StoreLaws.{access_reads}
 
 -- the next step is that of the instruction at which the thread stands
 pub next_is : (m : Module) (t : ThreadState) (f : Frame) (rest : List Frame) (x : Option Name) (k : Kind) → StandsAt m t f rest x k → Next m t ≡ next_kind m t f rest x k
-next_is m t f rest x k s = ap (next_frames m t) s.calls ∙ ap (next_inst m t f rest) s.inst
+next_is m t f rest x k s = ap (next_frames m t) s.calls ∙ ap (next_in m t f rest (inst_at m f.code.at)) s.begins ∙ ap (next_inst m t f rest) s.inst
 
 -- ---- registers
 
@@ -120,7 +132,8 @@ call_begins m t f rest result tail_word ret callee operands k params words s is 
     next_is m t f rest result (Call tail_word ret callee operands) s ∙ ap (next_call m t f rest result operands) is ∙ ap (λ r. with_found r (λ ws. Local (with_frames t (called k params ws result ∷ f ∷ rest)))) found
 
 pub return_goes_back : ReturnGoesBack
-return_goes_back m t g f rest result v word s found = next_is m t g (f ∷ rest) result (Ret (Some v)) s ∙ ap (λ r. with_found r (λ w. returns t (f ∷ rest) g.code.back (Some w))) found
+return_goes_back m t g f rest result v word s begins found =
+    next_is m t g (f ∷ rest) result (Ret (Some v)) s ∙ ap (λ r. with_found r (λ w. returns t (f ∷ rest) g.code.back (Some w))) found ∙ ap (λ p. Local (back_in p t f rest g.code.back (Some word))) begins
 
 local_or : ThreadState → NextStep → ThreadState
 local_or d (Local t) = t
@@ -132,7 +145,7 @@ local_injective t u e = ap (local_or t) e
 
 pub call_returns : CallReturns
 call_returns m t u f rest result of_return tail_word ret callee operands k params words v word s is found goes r value =
-    return_goes_back m u (called k params words result) f rest of_return v word r value ∙ ap (λ x. Local (goes_on x f rest result word)) (sym (local_injective begun u (sym (call_begins m t f rest result tail_word ret callee operands k params words s is found) ∙ goes)))
+    return_goes_back m u (called k params words result) f rest of_return v word r s.begins value ∙ ap (λ x. Local (goes_on x f rest result word)) (sym (local_injective begun u (sym (call_begins m t f rest result tail_word ret callee operands k params words s is found) ∙ goes)))
   where
     begun : ThreadState
     begun = with_frames t (called k params words result ∷ f ∷ rest)
@@ -156,6 +169,7 @@ alloca_makes m t f rest x ty align s small =
     g = record {
       code = record f.code {
         at = record f.code.at { index = f.code.at.index + 1 };
+        phase = Begins;
         registers = assigned f.code.registers (Some x) (Address (At (Stack t.own t.counter) (pos 0)));
       };
       blocks = (spot, zeros) ∷ f.blocks;
@@ -167,13 +181,23 @@ alloca_makes m t f rest x ty align s small =
     same : same_spot spot spot ≡ true
     same = ap (λ b. b && t.counter == t.counter) (eq-eqb t.own t.own refl) ∙ eq-eqb t.counter t.counter refl
 
+back_finds : (word : Option Word) (t : ThreadState) (f : Frame) (rest : List Frame) (back : Option Name) (spot : Spot) → find_in (goes_back t f rest back word).frames spot ≡ find_in (f ∷ rest) spot
+back_finds None t f rest back spot = refl
+back_finds (Some word) t f rest back spot = refl
+
+-- a return changes no block of the calls that are left
+return_finds : (p : Phase) (word : Option Word) (t : ThreadState) (f : Frame) (rest : List Frame) (back : Option Name) (spot : Spot) → find_in (back_in p t f rest back word).frames spot ≡ find_in (f ∷ rest) spot
+return_finds InRegion word t f rest back spot = refl
+return_finds (Loops point) word t f rest back spot = refl
+return_finds _ word t f rest back spot = back_finds word t f rest back spot
+
 returned : (m : Module) (t u : ThreadState) (g f : Frame) (rest : List Frame) (spot : Spot) → find_in (f ∷ rest) spot ≡ None → (r : Result Word Trap) → with_found r (λ word. returns t (f ∷ rest) g.code.back (Some word)) ≡ Local u → find_in u.frames spot ≡ None
 returned m t u g f rest spot none (Err e) goes = let f : ⊥ = cc in absurd f
-returned m t u g f rest spot none (Ok word) goes = ap (λ x. find_in x.frames spot) (sym (local_injective (goes_on t f rest g.code.back word) u goes)) ∙ none
+returned m t u g f rest spot none (Ok word) goes = ap (λ x. find_in x.frames spot) (sym (local_injective _ u goes)) ∙ return_finds f.code.phase (Some word) t f rest g.code.back spot ∙ none
 
 pub alloca_ends : AllocaEnds
 alloca_ends m t u g f rest result None spot s none goes =
-    ap (λ x. find_in x.frames spot) (sym (local_injective _ u (sym (next_is m t g (f ∷ rest) result (Ret None) s) ∙ goes))) ∙ none
+    ap (λ x. find_in x.frames spot) (sym (local_injective _ u (sym (next_is m t g (f ∷ rest) result (Ret None) s) ∙ goes))) ∙ return_finds f.code.phase None t f rest g.code.back spot ∙ none
 alloca_ends m t u g f rest result (Some v) spot s none goes = returned m t u g f rest spot none (value_word m g.code.registers v.value) (sym (next_is m t g (f ∷ rest) result (Ret (Some v)) s) ∙ goes)
 
 -- ---- names of stack blocks
@@ -184,31 +208,25 @@ NoneFrom own count fs = (n : ℕ) → count ≤ n → find_in fs (own, n) ≡ No
 
 -- behind a step of the thread's own there is none from the number on of the blocks that were made
 abbrev Keeps : NextStep → Type 0
-Keeps (Local u) = HasNoNewer u
-Keeps _ = Unit {0}
+Keeps = LeadsTo HasNoNewer (λ event. Unit {0})
 
 keeps_found : {A : Type 0} (r : Result A Trap) (go : A → NextStep) → ((x : A) → Keeps (go x)) → Keeps (with_found r go)
-keeps_found (Err e) go h = tt
-keeps_found (Ok x) go h = h x
+keeps_found = if_found HasNoNewer (λ event. Unit {0})
 
 keeps_number : (w : Word) (go : ℕ → NextStep) → ((n : ℕ) → Keeps (go n)) → Keeps (with_number w go)
-keeps_number (Int n) go h = h n
-keeps_number (Address p) go h = tt
+keeps_number = if_number HasNoNewer (λ event. Unit {0})
 
 keeps_pointer : (w : Word) (go : Ptr → NextStep) → ((p : Ptr) → Keeps (go p)) → Keeps (with_pointer w go)
-keeps_pointer (Int n) go h = tt
-keeps_pointer (Address p) go h = h p
+keeps_pointer = if_pointer HasNoNewer (λ event. Unit {0})
 
 keeps_result : {A : Type 0} (o : Option A) (go : A → NextStep) → ((x : A) → Keeps (go x)) → Keeps (with_result o go)
-keeps_result None go h = tt
-keeps_result (Some x) go h = h x
+keeps_result = if_result HasNoNewer (λ event. Unit {0})
+
+keeps_either : (test : Bool) (x y : NextStep) → Keeps x → Keeps y → Keeps (if test then x else y)
+keeps_either = if_either HasNoNewer (λ event. Unit {0})
 
 keeps_scalar : (ty : Ty) (go : NextStep) → Keeps go → Keeps (with_scalar ty go)
-keeps_scalar ty go h = by_test (is_scalar ty)
-  where
-    by_test : (scalar : Bool) → Keeps (if scalar then go else Trapped Unreachable)
-    by_test true = h
-    by_test false = tt
+keeps_scalar = if_scalar HasNoNewer (λ event. Unit {0})
 
 both_none : (a b : Option (List Byte)) → or_else a b ≡ None → (a ≡ None) × (b ≡ None)
 both_none None b e = (refl, e)
@@ -227,8 +245,48 @@ put_in_none spot s bytes [] none = refl
 put_in_none spot s bytes (f ∷ fs) none =
     let p = both_none (find_block f.blocks s) (find_in fs s) none in ap (λ o. or_else o (find_in (put_in spot bytes fs) s)) (put_none spot s bytes f.blocks p.0) ∙ put_in_none spot s bytes fs p.1
 
+-- what holds of the thing that was found, where one was
+abbrev Found : {A : Type 0} → (A → Type 0) → Result A Trap → Type 0
+Found P (Err e) = Unit {0}
+Found P (Ok x) = P x
+
+keeps_with : {A : Type 0} (P : A → Type 0) (r : Result A Trap) (go : A → NextStep) → Found P r → ((x : A) → P x → Keeps (go x)) → Keeps (with_found r go)
+keeps_with P (Err e) go h k = tt
+keeps_with P (Ok x) go h k = k x h
+
+found_then : {A B : Type 0} (P : A → Type 0) (Q : B → Type 0) (r : Result A Trap) (go : A → Result B Trap) → Found P r → ((x : A) → P x → Found Q (go x)) → Found Q (and_then r go)
+found_then P Q (Err e) go h k = tt
+found_then P Q (Ok x) go h k = k x h
+
+-- words that are put into blocks make none
+module _ (own count : ℕ) where
+  puts : (fs : List Frame) (spot : Spot) → NoneFrom own count fs → (r : Result (List Byte) Trap) → Found (NoneFrom own count) (and_then r (λ bytes. Ok (put_in spot bytes fs)))
+  puts fs spot h (Err e) = tt
+  puts fs spot h (Ok bytes) = λ n low. put_in_none spot (own, n) bytes fs (h n low)
+
+  puts_own : (fs : List Frame) (w : Where) (cell : Cell) (word : Word) → NoneFrom own count fs → Found (NoneFrom own count) (put_own fs w cell word)
+  puts_own fs (Elsewhere p) cell word h = tt
+  puts_own fs (InStack spot offset) cell word h = puts fs spot h (store_own (find_in fs spot) offset cell word)
+
+  puts_bounds : (s : Slots) (bounds : Option (ℤ × ℤ)) (fs : List Frame) → NoneFrom own count fs → Found (NoneFrom own count) (put_bounds s bounds fs)
+  puts_bounds s None fs h = h
+  puts_bounds s (Some b) fs h =
+      found_then (NoneFrom own count) (NoneFrom own count) _ _ (puts_own fs s.lower (IntCell 32) (int32 b.0) h) (λ gs k. puts_own gs s.upper (IntCell 32) (int32 b.1) k)
+
+  puts_turns : (s : Slots) (share : Turns) (fs : List Frame) → NoneFrom own count fs → Found (NoneFrom own count) (put_turns s share fs)
+  puts_turns s share fs h =
+      found_then (NoneFrom own count) (NoneFrom own count) _ _ (puts_own fs s.last (IntCell 32) (truth_word share.last) h) (λ gs k.
+      found_then (NoneFrom own count) (NoneFrom own count) _ _ (puts_bounds s share.bounds gs k) (λ hs j. puts_own hs s.stride (IntCell 32) (int32 share.stride) j))
+
 newer : (own count n : ℕ) → count + 1 ≤ n → same_spot (own, n) (own, count) ≡ false
 newer own count n low = false_from_ne_true (same_spot (own, n) (own, count)) (λ e. let q = eqb-true n count (and_parts (own == own) (n == count) e).1 in omega arith)
+
+-- a region function begins on two new blocks
+pub keeps_region : (m : Module) (t : ThreadState) (below : List Frame) → NoneFrom t.own t.counter below → (function : ℕ) (words : List Word) → HasNoNewer (in_region m t below function words)
+keeps_region m t below k function words n low =
+    ap (λ b. or_else (cond b (Some (number_bytes 4 0)) (cond (same_spot (t.own, n) (t.own, t.counter)) (Some (number_bytes 4 t.own)) None)) (find_in below (t.own, n))) (newer t.own (t.counter + 1) n (omega arith))
+    ∙ ap (λ b. or_else (cond b (Some (number_bytes 4 t.own)) None) (find_in below (t.own, n))) (newer t.own t.counter n (omega arith))
+    ∙ k n (omega arith)
 
 module _ (m : Module) (t : ThreadState) (f : Frame) (rest : List Frame) (h : NoneFrom t.own t.counter (f ∷ rest)) where
   keeps_loads : (x : Option Name) (cell : Cell) (w : Where) → Keeps (loads t f rest x cell w)
@@ -247,7 +305,7 @@ module _ (m : Module) (t : ThreadState) (f : Frame) (rest : List Frame) (h : Non
   keeps_updates x width op k (Elsewhere p) = tt
 
   keeps_allocates : (x : Option Name) (size : ℕ) → Keeps (allocates t f rest x size)
-  keeps_allocates x size = by_size (nat_le size block_limit)
+  keeps_allocates x size = keeps_either (nat_le size block_limit) (Local new) (Trapped TooLarge) is_new tt
     where
       zeros : List Byte
       zeros = replicate size (Num 0)
@@ -258,15 +316,81 @@ module _ (m : Module) (t : ThreadState) (f : Frame) (rest : List Frame) (h : Non
         frames = record { code = code_on f.code x (Address (At (Stack t.own t.counter) (pos 0))); blocks = ((t.own, t.counter), zeros) ∷ f.blocks } ∷ rest;
       }
 
-      by_size : (small : Bool) → Keeps (if small then Local new else Trapped TooLarge)
-      by_size true = λ n low. ap (λ b. or_else (cond b (Some zeros) (find_block f.blocks (t.own, n))) (find_in rest (t.own, n))) (newer t.own t.counter n low) ∙ h n (omega arith)
-      by_size false = tt
+      is_new : HasNoNewer new
+      is_new = λ n low. ap (λ b. or_else (cond b (Some zeros) (find_block f.blocks (t.own, n))) (find_in rest (t.own, n))) (newer t.own t.counter n low) ∙ h n (omega arith)
+
+  keeps_shared : (w : Where) → Keeps (with_found (put_own (record f { code = code_past f.code } ∷ rest) w PtrCell (Address (At Captures (pos 0)))) (λ fs. Local (with_frames t fs)))
+  keeps_shared w = keeps_with (NoneFrom t.own t.counter) _ _ (puts_own t.own t.counter (record f { code = code_past f.code } ∷ rest) w PtrCell (Address (At Captures (pos 0))) h) (λ fs k. k)
+
+  keeps_releases : (size : ℕ) (w : Where) → Keeps (releases size w)
+  keeps_releases size (InStack spot offset) = tt
+  keeps_releases size (Elsewhere p) = tt
+
+  keeps_schedules : (schedule : ℕ) (s : Slots) (increment chunk : ℤ) → Keeps (schedules t f rest schedule s increment chunk)
+  keeps_schedules schedule s increment chunk =
+      keeps_found (get_own (f ∷ rest) s.lower) _ (λ lower. keeps_found (get_own (f ∷ rest) s.upper) _ (λ upper.
+      keeps_with (NoneFrom t.own t.counter) _ _ (puts_turns t.own t.counter s _ (record f { code = code_past f.code } ∷ rest) h) (λ fs k. k)))
+
+  keeps_starts : (words : List Word) → Keeps (starts_loop t f rest words)
+  keeps_starts (place ∷ number ∷ Int schedule ∷ Address last ∷ Address lower ∷ Address upper ∷ Address stride ∷ Int increment ∷ Int chunk ∷ []) =
+      keeps_either _ _ (Trapped NotStack) (keeps_either (increment == 0) (Trapped Division) _ tt (keeps_schedules schedule _ (signed 32 increment) (signed 32 chunk))) tt
+  keeps_starts _ = tt
+
+  keeps_known : (x : Option Name) (r : Rtl) (words : List Word) → Keeps (next_known t f rest x r words)
+  keeps_known x AllocShared (Int size ∷ []) = tt
+  keeps_known x FreeShared (Address p ∷ Int size ∷ []) = keeps_releases size (where_is p)
+  keeps_known x GetSharedVariables (Address p ∷ []) = keeps_shared (where_is p)
+  keeps_known x RegionBarrier words = keeps_either (t.answers.level == 0) (Local (goes_past t f rest)) _ h tt
+  keeps_known x GlobalThreadNum words = h
+  keeps_known x ThreadNum words = h
+  keeps_known x NumThreads words = h
+  keeps_known x Level words = h
+  keeps_known x ParallelLevel words = h
+  keeps_known x InParallel words = h
+  keeps_known x IsSpmdExecMode words = h
+  keeps_known x ForStaticInit words = keeps_starts words
+  keeps_known x ForStaticFini words = h
+  keeps_known x Print (Int n ∷ []) = tt
+  keeps_known x KernelEndParallel words = h
+  keeps_known x HardwareThreadId words = h
+  keeps_known x _ words = tt
+
+  keeps_forks : (words : List Word) (fork : Fork) → Keeps (forks t f rest words fork)
+  keeps_forks words fork = keeps_either t.enters _ _ tt (keeps_found (captured (f ∷ rest) (words_operand words) fork.count) _ (λ ps. tt))
+
+  keeps_entry : (x : Option Name) (operands : List Typed) (r : Rtl) → Keeps (next_entry m t f rest x operands r)
+  keeps_entry x operands TargetInit = keeps_either (is_worker t && runs_loop operands) _ _ h h
+  keeps_entry x operands TargetDeinit = tt
+  keeps_entry x operands Parallel = keeps_found (operand_words m f.code.registers operands) _ (λ words. keeps_result (fork_of m operands) _ (keeps_forks words))
+  keeps_entry x operands r = keeps_found (operand_words m f.code.registers operands) _ (keeps_known x r)
 
   keeps_call : (x : Option Name) (operands : List Typed) (c : Callee) → Keeps (next_call m t f rest x operands c)
-  keeps_call x operands CallsInit = h
-  keeps_call x operands CallsDeinit = tt
+  keeps_call x operands (CallsEntry r) = keeps_entry x operands r
   keeps_call x operands (CallsFunction k params) = search (keeps_found, h)
   keeps_call x operands CallsOther = tt
+
+  keeps_enters : (o : Option Inst) → Keeps (enters_at m t f rest o)
+  keeps_enters None = tt
+  keeps_enters (Some i) = by_kind i.kind
+    where
+      keeps_words : (words : List Word) (fork : Fork) → Keeps (enters_region m t f rest words fork)
+      keeps_words words fork =
+          keeps_found (captured (f ∷ rest) (words_operand words) fork.count) _ (λ ps. keeps_found (words_formed m fork.wrapper ps) _ (λ ws. keeps_region m t (in_phase InRegion f ∷ rest) h fork.function ws))
+
+      by_kind : (k : Kind) → Keeps (enters_kind m t f rest k)
+      by_kind (Call tail_word ret callee operands) = keeps_found (operand_words m f.code.registers operands) _ (λ words. keeps_result (fork_of m operands) _ (keeps_words words))
+      by_kind _ = tt
+
+  -- a step of the runtime's own loop
+  keeps_loop : (x : Option Name) (point : LoopPoint) → Keeps (next_loop m t f rest x point)
+  keeps_loop x (Considers (suc n) work) = h
+  keeps_loop x (Considers zero None) = h
+  keeps_loop x (Considers zero (Some wrapper)) = h
+  keeps_loop x HasWorked = h
+  keeps_loop x EndsRegion = h
+  keeps_loop x HasEnded = h
+  keeps_loop x HasRested = h
+  keeps_loop x _ = tt
 
   keeps_block : (o : Option ℕ) → Keeps (to_block m t f rest o)
   keeps_block None = tt
@@ -276,10 +400,15 @@ module _ (m : Module) (t : ThreadState) (f : Frame) (rest : List Frame) (h : Non
   keeps_label x = keeps_block (place_in (labels m f.code.at.function) x)
 
 -- the calls that are left have no newer block
+keeps_back : (p : Phase) (t : ThreadState) (f : Frame) (rest : List Frame) → NoneFrom t.own t.counter (f ∷ rest) → (back : Option Name) (word : Option Word) → HasNoNewer (back_in p t f rest back word)
+keeps_back InRegion t f rest h back word = h
+keeps_back (Loops point) t f rest h back word = h
+keeps_back _ t f rest h back None = h
+keeps_back _ t f rest h back (Some word) = h
+
 keeps_returns : (t : ThreadState) (f : Frame) (rest : List Frame) → NoneFrom t.own t.counter (f ∷ rest) → (back : Option Name) (word : Option Word) → Keeps (returns t rest back word)
 keeps_returns t f [] h back word = tt
-keeps_returns t f (g ∷ rest) h back None = λ n low. (both_none _ _ (h n low)).1
-keeps_returns t f (g ∷ rest) h back (Some word) = λ n low. (both_none _ _ (h n low)).1
+keeps_returns t f (g ∷ rest) h back word = keeps_back g.code.phase t g rest (λ n low. (both_none _ _ (h n low)).1) back word
 
 keeps_kind : (m : Module) (t : ThreadState) (f : Frame) (rest : List Frame) → NoneFrom t.own t.counter (f ∷ rest) → (x : Option Name) (k : Kind) → Keeps (next_kind m t f rest x k)
 keeps_kind m t f rest h x (Bin op flags ty a b) = search (keeps_found, keeps_number, h) depth 12
@@ -305,24 +434,71 @@ keeps_inst : (m : Module) (t : ThreadState) (f : Frame) (rest : List Frame) → 
 keeps_inst m t f rest h None = tt
 keeps_inst m t f rest h (Some i) = keeps_kind m t f rest h i.result i.kind
 
+keeps_in : (m : Module) (t : ThreadState) (f : Frame) (rest : List Frame) → NoneFrom t.own t.counter (f ∷ rest) → (o : Option Inst) (p : Phase) → Keeps (next_in m t f rest o p)
+keeps_in m t f rest h o Begins = keeps_inst m t f rest h o
+keeps_in m t f rest h o Gathered = keeps_enters m t f rest h o
+keeps_in m t f rest h o (Loops point) = keeps_loop m t f rest h (result_of o) point
+keeps_in m t f rest h o _ = tt
+
 keeps_frames : (m : Module) (t : ThreadState) (fs : List Frame) → NoneFrom t.own t.counter fs → Keeps (next_frames m t fs)
 keeps_frames m t [] h = tt
-keeps_frames m t (f ∷ rest) h = keeps_inst m t f rest h (inst_at m f.code.at)
+keeps_frames m t (f ∷ rest) h = keeps_in m t f rest h (inst_at m f.code.at) f.code.phase
 
 keeps_resumed : (m : Module) (t : ThreadState) (fs : List Frame) → HasNoNewer t → NoneFrom t.own t.counter fs → (answer : Option Word) → HasNoNewer (resumed_frames m t fs answer)
 keeps_resumed m t [] all h answer = all
 keeps_resumed m t (f ∷ rest) all h None = h
 keeps_resumed m t (f ∷ rest) all h (Some word) = h
 
+keeps_arrived : (t : ThreadState) (fs : List Frame) → HasNoNewer t → NoneFrom t.own t.counter fs → (phase : Option Phase) → HasNoNewer (arrived_frames t fs phase)
+keeps_arrived t [] all h phase = all
+keeps_arrived t (f ∷ rest) all h None = h
+keeps_arrived t (f ∷ rest) all h (Some phase) = h
+
+-- ---- answers to a question for work
+
+module _ (m : Module) (t : ThreadState) (work : Option ℕ) where
+  keeps_stores_work : (f : Frame) (rest : List Frame) → NoneFrom t.own t.counter (f ∷ rest) → (x : Option Name) (words : List Word) → Found HasNoNewer (stores_work t f rest x work words)
+  keeps_stores_work f rest h x (Address p ∷ []) =
+      found_then (NoneFrom t.own t.counter) HasNoNewer _ _ (puts_own t.own t.counter (record f { code = code_on f.code x (truth_word (is_some work)) } ∷ rest) (where_is p) PtrCell (work_word work) h) (λ fs k. k)
+  keeps_stores_work f rest h x _ = tt
+
+  keeps_answers : (f : Frame) (rest : List Frame) → NoneFrom t.own t.counter (f ∷ rest) → (o : Option Inst) → Found HasNoNewer (answers_call m t f rest work o)
+  keeps_answers f rest h None = tt
+  keeps_answers f rest h (Some i) = by_kind i.kind
+    where
+      by_words : (r : Result (List Word) Trap) → Found HasNoNewer (and_then r (stores_work t f rest i.result work))
+      by_words (Err e) = tt
+      by_words (Ok words) = keeps_stores_work f rest h i.result words
+
+      by_kind : (k : Kind) → Found HasNoNewer (answers_kind m t f rest i.result work k)
+      by_kind (Call tail_word ret callee operands) = by_words (operand_words m f.code.registers operands)
+      by_kind _ = tt
+
+  keeps_answers_in : (f : Frame) (rest : List Frame) → NoneFrom t.own t.counter (f ∷ rest) → (p : Phase) → Found HasNoNewer (answers_in m t f rest work p)
+  keeps_answers_in f rest h (Loops point) = h
+  keeps_answers_in f rest h _ = keeps_answers f rest h (inst_at m f.code.at)
+
+  keeps_work : (fs : List Frame) → NoneFrom t.own t.counter fs → Found HasNoNewer (answers_frames m t fs work)
+  keeps_work [] h = tt
+  keeps_work (f ∷ rest) h = keeps_answers_in f rest h f.code.phase
+
+-- ---- all kinds of steps
+
 pub first_thread_is_new : FirstThreadIsNew
-first_thread_is_new m l own answers = begins (function_place m l.kernel)
+first_thread_is_new m l role answers = begins (function_place m l.kernel)
   where
-    begins : (o : Option ℕ) → HasNoNewer (thread_at m l own answers o)
+    begins : (o : Option ℕ) → HasNoNewer (thread_at m l role answers o)
     begins None n low = refl
     begins (Some k) n low = refl
 
 pub names_are_new : NamesAreNew
-names_are_new m t h = (λ u goes. subst Keeps goes (keeps_frames m t t.frames h), λ answer. keeps_resumed m t t.frames h h answer)
+names_are_new m t h = record {
+  steps = λ u goes. subst Keeps goes (keeps_frames m t t.frames h);
+  events = λ answer. keeps_resumed m t t.frames h h answer;
+  arrivals = λ phase. keeps_arrived t t.frames h h phase;
+  work = λ wrapper u is. subst (Found HasNoNewer) is (keeps_work m t wrapper t.frames h);
+  regions = λ function words. keeps_region m t [] (λ n low. refl) function words;
+}
 
 -- ---- atomic changes
 

@@ -26,17 +26,22 @@ use Rattle.mem_model.specs.declared.step.Trap.TheVariants.{Constant}
 use Rattle.mem_model.specs.Words.{cell_size}
 use Rattle.mem_model.specs.MemoryLaws.{Lies}
 use Rattle.mem_model.specs.Memory.{Memory, Header, Shares, Load, Store, block_limit}
+use Rattle.mem_model.specs.declared.phase.Phase.{Phase}
+use Rattle.mem_model.specs.declared.phase.Phase.TheVariants.{Begins}
 use Rattle.mem_model.specs.Thread.{Name, Registers, Answers, Frame, ThreadState, Spot, bound, find_in}
 use Rattle.ir_core.specs.Places.{inst_at, labels, label_at, place_in, phis_at, edge_from}
 use Rattle.mem_model.specs.Values.{value_word, operand, operand_words}
 use Rattle.mem_model.specs.Update.{Updated, Update}
-use Rattle.mem_model.specs.Launching.{first_thread}
-use Rattle.mem_model.specs.Next.{Local, Pending, Leaves, with_frames, goes_on, to_label, CallsFunction, callee_of, called, Next, resumed}
+use Rattle.mem_model.specs.Regions.{in_region}
+use Rattle.mem_model.specs.Work.{given_work}
+use Rattle.mem_model.specs.Launching.{Role, first_thread}
+use Rattle.mem_model.specs.Next.{Local, Pending, Leaves, with_frames, goes_on, to_label, CallsFunction, callee_of, called, Next, resumed, arrived}
 
--- the thread's innermost call is f, over the others, and stands at an instruction of this kind
+-- the thread's innermost call is f, over the others, and begins an instruction of this kind
 pub record StandsAt (m : Module) (t : ThreadState) (f : Frame) (rest : List Frame) (result : Option Name) (kind : Kind) : Type 0 where
   pub line : ℕ
   pub calls : t.frames ≡ f ∷ rest
+  pub begins : f.code.phase ≡ Begins
   pub inst : inst_at m f.code.at ≡ Some (record { result = result; kind = kind; line = line })
 
 -- ---- branches
@@ -74,10 +79,11 @@ CallBegins =
     StandsAt m t f rest result (Call tail_word ret callee operands) → callee_of m callee ≡ CallsFunction k params → operand_words m f.code.registers operands ≡ Ok words →
     Next m t ≡ Local (with_frames t (called k params words result ∷ f ∷ rest))
 
--- a return brings the caller behind its call with the word in the register that takes it, and ends the callee's stack blocks
+-- a return to a call brings the caller behind it with the word in the register that takes it, and ends the callee's stack blocks
 abbrev pub ReturnGoesBack : Type 0
 ReturnGoesBack =
-    (m : Module) (t : ThreadState) (g f : Frame) (rest : List Frame) (result : Option Name) (v : Typed) (word : Word) → StandsAt m t g (f ∷ rest) result (Ret (Some v)) → value_word m g.code.registers v.value ≡ Ok word → Next m t ≡ Local (goes_on t f rest g.code.back word)
+    (m : Module) (t : ThreadState) (g f : Frame) (rest : List Frame) (result : Option Name) (v : Typed) (word : Word) → StandsAt m t g (f ∷ rest) result (Ret (Some v)) → f.code.phase ≡ Begins → value_word m g.code.registers v.value ≡ Ok word →
+    Next m t ≡ Local (goes_on t f rest g.code.back word)
 
 -- a call of a function that returns at once, and its return: the caller goes on behind the call with the result
 abbrev pub CallReturns : Type 0
@@ -108,11 +114,19 @@ HasNoNewer t = (n : ℕ) → t.counter ≤ n → find_in t.frames (t.own, n) ≡
 
 -- a thread begins so
 abbrev pub FirstThreadIsNew : Type 0
-FirstThreadIsNew = (m : Module) (l : Launch) (own : ℕ) (answers : Answers) → HasNoNewer (first_thread m l own answers)
+FirstThreadIsNew = (m : Module) (l : Launch) (role : Role) (answers : Answers) → HasNoNewer (first_thread m l role answers)
 
--- and it stays with each step of the thread, and behind each event: a name is never used again
+-- and it stays with each step of the thread, behind each event, arrival and answer to a question for work, and where the source's fork
+-- begins a region: a name is never used again
+pub record StaysNew (m : Module) (t : ThreadState) : Type 0 where
+  pub steps : (u : ThreadState) → Next m t ≡ Local u → HasNoNewer u
+  pub events : (answer : Option Word) → HasNoNewer (resumed m t answer)
+  pub arrivals : (phase : Option Phase) → HasNoNewer (arrived t phase)
+  pub work : (wrapper : Option ℕ) (u : ThreadState) → given_work m t wrapper ≡ Ok u → HasNoNewer u
+  pub regions : (function : ℕ) (words : List Word) → HasNoNewer (in_region m t [] function words)
+
 abbrev pub NamesAreNew : Type 0
-NamesAreNew = (m : Module) (t : ThreadState) → HasNoNewer t → ((u : ThreadState) → Next m t ≡ Local u → HasNoNewer u) × ((answer : Option Word) → HasNoNewer (resumed m t answer))
+NamesAreNew = (m : Module) (t : ThreadState) → HasNoNewer t → StaysNew m t
 
 -- a block that no call below has is gone behind the function's return
 abbrev pub AllocaEnds : Type 0

@@ -1,8 +1,9 @@
-//! Laws of memory and of a thread's next step, of which each is a check of the definitions: a function whose contract is the
+//! Laws of memory, of a thread's next step and of regions, of which each is a check of the definitions: a function whose contract is the
 //! law. They take no code of the program.
 #![tactic(auto)]
 
 mod memory_laws;
+mod region_laws;
 mod step_laws;
 
 pub use memory_laws::{
@@ -13,4 +14,5 @@ pub use memory_laws::{
     released_traps, store_goes, store_keeps_blocks, store_then_load, tells_blocks, tells_pointers,
     word_comes_back,
 };
+pub use region_laws::{captured_words, formed_words, regions};
 pub use step_laws::{atomic_changes, branches, calls, stack_blocks};

@@ -1,5 +1,6 @@
 pub mod Runs
 pub mod Simulation
+pub mod StepCases
 pub mod Orders
 pub mod AccessTests
 pub mod WordLaws

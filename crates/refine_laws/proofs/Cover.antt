@@ -1,10 +1,9 @@
 -- The team of a kernel with its machine off does what the source does.
-use Rattle.std.proofs.Common.{◌≡◌, ℕ, ◌+◌, ◌*◌, ◌<◌, ◌≤◌, List, [], ◌∷◌, ◌++◌, length, Bool, true, false, Some, None, refl, sym, ap, ◌∙◌, subst, arith, is_some, mul-le-mul}
-use Rattle.std.specs.Prelude.{slice_get, if◌then◌else◌}
-use Rattle.std.specs.List.{list_all}
+use Rattle.std.proofs.Common.{◌≡◌, ℕ, suc, ◌+◌, ◌*◌, ◌<◌, ◌≤◌, List, [], ◌∷◌, ◌++◌, length, Bool, true, false, ◌||◌, Option, Some, None, refl, sym, ap, ◌∙◌, subst, arith, is_some, mul-le-mul}
+use Rattle.std.specs.Prelude.{if◌then◌else◌}
+use Rattle.std.specs.List.{list_all, list_any}
 use Rattle.std.proofs.Math.Nat.{mul-add}
 use Rattle.ir_core.specs.declared.module.Module.{Module}
-use Rattle.ir_core.specs.declared.module.Function.{Function}
 use Rattle.ir_core.specs.declared.module.Global.{Global}
 use Rattle.ir_core.specs.FirstForm.{HasFirstForm}
 use Rattle.ir_core.specs.MachineOff.{machine_off}
@@ -14,21 +13,24 @@ use Rattle.mem_model.specs.declared.launch.Arg.TheVariants.{Buffer, Int as IntAr
 use Rattle.mem_model.specs.declared.memory.BlockName.{BlockName}
 use Rattle.mem_model.specs.declared.step.End.{End}
 use Rattle.mem_model.specs.declared.step.End.TheVariants.{Running, Ended, Stuck, Trapped as TrappedEnd}
-use Rattle.ir_core.specs.Places.{function_place}
 use Rattle.mem_model.specs.Bound.{Counted, whole_bound}
 use Rattle.mem_model.specs.Runs.{run, Safe, Covers}
 use Rattle.mem_model.specs.Launching.{Fits, threads_limit, buffer_names, global_names, shown_names, counted, Bound}
 use Rattle.mem_model.proofs.Simulation.{Meets, meets_run}
 use Rattle.source_model.specs.declared.Choice.TheVariants.{Main}
 use Rattle.source_model.specs.Source as source
-use Rattle.source_model.specs.Source.{SourceState, SourceStep, SourceSystem, source_start, source_end, source_outcome, by_choice, while_running}
+use Rattle.source_model.specs.Source.{SourceState, SourceStep, SourceSystem, source_start, source_end, source_outcome, Trapping, by_choice, while_running, can_go}
 use Rattle.team_model.specs.declared.Stand.{Stand}
 use Rattle.team_model.specs.declared.Stand.TheVariants.{Runs, Waits, Ended as Gone}
 use Rattle.team_model.specs.Team as team
-use Rattle.team_model.specs.Team.{Team, TeamStep, TeamSystem, team_start, team_end, team_outcome, is_gone, is_held}
+use Rattle.team_model.specs.Team.{Team, TeamStep, TeamSystem, team_start, team_end, team_outcome, is_spmd_function, function_at, is_spmd, is_gone, is_held}
 use Rattle.refine_laws.proofs.AlikeMemory.{AllPlain, all_shown_alike}
 use Rattle.refine_laws.proofs.ListPlaces.{all_at}
-use Rattle.refine_laws.proofs.KernelShape.{KernelShape, minus_one, kernel_shape}
+use Rattle.refine_laws.specs.Quiet.{CallsQuietly}
+use Rattle.refine_laws.proofs.KernelShape.{minus_one, kernel_shape}
+use Rattle.refine_laws.proofs.WayOut.{WayOut}
+use Rattle.refine_laws.proofs.Workers.{way_out}
+use Rattle.refine_laws.proofs.QuietForm.{quiet_first}
 use Rattle.refine_laws.proofs.Relation.{stand_of, is_free, Tied}
 use Rattle.refine_laws.proofs.EachStep.{each_step}
 use Rattle.refine_laws.proofs.Start.{tied_at_start}
@@ -65,7 +67,10 @@ gone_returns false h = let f : ⊥ = cc in absurd f
 -- the source has ended where its main thread has returned
 source_ended : (m : Module) (s : SourceState) → s.trapped ≡ None → s.returned ≡ true → source_end m s ≡ Ended
 source_ended m s goes returned =
-    ap (λ o. source.end_by o s.returned (is_some (while_running s.returned o (by_choice m s Main)))) goes ∙ ap (λ b. source.end_by None b (is_some (while_running b None (by_choice m s Main)))) returned
+    ap (λ o. source.end_by o s.returned (is_ready s.returned o)) goes ∙ ap (λ b. source.end_by None b (is_ready b None)) returned
+  where
+    is_ready : Bool → Option Trapping → Bool
+    is_ready returned trapped = is_some (while_running returned trapped (by_choice m s Main)) || list_any can_go s.region
 
 -- ---- what is shown is no capture area
 
@@ -99,10 +104,11 @@ few_threads n h = omega arith
 product_above : (b t m n : ℕ) → (t + 1) * 4 ≤ b → n ≤ m + 4 * t → n ≤ b * (m + 2)
 product_above b t m n large small = let p : 1 * m ≤ b * m = mul-le-mul (omega arith) (omega arith) in let q = mul-add b m 2 in omega arith
 
-abbrev with_workers : ℕ → ℕ → ℕ
-with_workers t m = m + 4 * t
+-- so many steps of each worker beside the source's
+abbrev pub with_workers : ℕ → ℕ → ℕ → ℕ
+with_workers steps t m = m + steps * t
 
-below_bound : (c : Counted) (m n : ℕ) → n ≤ with_workers c.threads m → n ≤ whole_bound c m
+below_bound : (c : Counted) (m n : ℕ) → n ≤ with_workers 4 c.threads m → n ≤ whole_bound c m
 below_bound c m n small = product_above ((c.threads + 1) * (512 + 32 * c.wrappers + 128 * c.captures)) c.threads m n (mul-le-mul (omega arith) (omega arith)) small
 
 -- a larger bound
@@ -114,22 +120,22 @@ covers_more new old f g more c = record {
   steps = λ safe n e o comes. let x = c.steps safe n e o comes in (x.0, x.1, x.2, x.3, more x.0 n x.4);
 }
 
--- ---- the whole
+-- ---- a module that calls quietly, each of whose workers leaves behind so many other steps
 
-module _ (m : Module) (l : Launch) (k : ℕ) (g : Function) (there : slice_get m.functions k ≡ Some g) (sh : KernelShape g.blocks) (named : function_place m l.kernel ≡ Some k) (few : l.threads < minus_one) where
+module _ (m : Module) (l : Launch) (last : ℕ) (way : WayOut (machine_off m) l last) (generic : is_spmd m l ≡ false) (quiet : CallsQuietly m) where
   abbrev Tie : SourceState → Team → ℕ → Type 0
-  Tie = Tied m l k g there sh
+  Tie = Tied m l last way
 
   same_outcome : (s : SourceState) (t : Team) (n : ℕ) → Tie s t n → team_outcome m l t ≡ source_outcome m l s
   same_outcome s t n r = λ i. record { prints = r.prints i; blocks = all_shown_alike s.common.memory t.shared.common.memory r.memory (shown_names m l) (shown_plain m l) i }
 
   -- a schedule of the team has a schedule of the source
   pub meets : Safe (SourceSystem m l 0) → (ds : List ℕ) (u : Team) → run (TeamStep (machine_off m)) ds (team_start (machine_off m) l) ≡ Some u →
-      Meets (SourceStep m) (TeamStep (machine_off m)) (source_start m l 0) Tie 1 (source_start m l 0) (length ds) (4 * l.threads) u
+      Meets (SourceStep m) (TeamStep (machine_off m)) (source_start m l 0) Tie 1 (source_start m l 0) (length ds) (suc last * l.threads) u
   meets safe ds u e =
-      meets_run (SourceStep m) (TeamStep (machine_off m)) (source_start m l 0) Tie 1 (each_step m l k g there sh few safe) ds (source_start m l 0) (team_start (machine_off m) l) u (4 * l.threads) ([], refl) (tied_at_start m l k g there sh named) e
+      meets_run (SourceStep m) (TeamStep (machine_off m)) (source_start m l 0) Tie 1 (each_step m l last way quiet safe) ds (source_start m l 0) (team_start (machine_off m) l) u (suc last * l.threads) ([], refl) (tied_at_start m l last way generic) e
 
-  pub covered : Covers (TeamSystem m (machine_off m) l) (SourceSystem m l 0) (with_workers l.threads)
+  pub covered : Covers (TeamSystem m (machine_off m) l) (SourceSystem m l 0) (with_workers (suc last) l.threads)
   covered = record {
     no_trap = λ safe n o thread line trap (c : TeamSystem m (machine_off m) l n (TrappedEnd thread line trap) o).
         let r = meets safe c.0 c.1 c.3 in
@@ -144,7 +150,15 @@ module _ (m : Module) (l : Launch) (k : ℕ) (g : Function) (there : slice_get m
         (length r.choices, source_end m r.state, source_outcome m l r.state, (r.choices, r.state, refl, r.runs, refl, refl), omega (arith, c.2, r.pays));
   }
 
+-- a kernel of the first form runs in generic mode
+pub is_generic : (m : Module) (l : Launch) → HasFirstForm m → Fits m l → is_spmd m l ≡ false
+is_generic m l form fits =
+    let shape = kernel_shape true m form fits.place fits.function fits.there fits.is_kernel in
+    ap (λ o. is_spmd_function (function_at m o)) fits.named ∙ ap is_spmd_function fits.there ∙ shape.generic
+
+-- and has its source's outcomes
 pub machine_off_covers : (m : Module) (l : Launch) → HasFirstForm m → Fits m l → Covers (TeamSystem m (machine_off m) l) (SourceSystem m l 0) (Bound m l)
 machine_off_covers m l form fits =
-    covers_more (TeamSystem m (machine_off m) l) (SourceSystem m l 0) (with_workers l.threads) (Bound m l) (below_bound (counted m l))
-    (covered m l fits.place fits.function fits.there (kernel_shape true m form fits.place fits.function fits.there fits.is_kernel) fits.named (few_threads l.threads fits.threads.1))
+    let shape = kernel_shape true m form fits.place fits.function fits.there fits.is_kernel in
+    let way = way_out m l fits.place fits.function fits.there shape fits.named (few_threads l.threads fits.threads.1) in
+    covers_more (TeamSystem m (machine_off m) l) (SourceSystem m l 0) (with_workers 4 l.threads) (Bound m l) (below_bound (counted m l)) (covered m l 3 way (is_generic m l form fits) (quiet_first true m form))

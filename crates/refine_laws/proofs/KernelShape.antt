@@ -1,6 +1,6 @@
--- What the kernel of a module of the first form does in its first block and in its third.
+-- What the kernel of a module of the first form does in its first block and in its third, with its machine off.
 use Rattle.std.proofs.Common.{◌≡◌, ◌≢◌, ℕ, zero, suc, ◌-◌, ◌<◌, ◌^◌, List, [], ◌∷◌, ◌++◌, map, Bool, true, false, ◌&&◌, not, Option, Some, None, Result, Ok, Err, refl, sym, ap, ◌∙◌, subst, arith, ◌⊎◌, inl, inr}
-use Rattle.std.specs.Prelude.{slice_get, nat_lt, ◌==◌, if◌then◌else◌}
+use Rattle.std.specs.Prelude.{slice_get, option_map, nat_lt, ◌==◌, if◌then◌else◌}
 use Rattle.std.specs.List.{flat_map}
 use Rattle.std.specs.Str.{bytes_eq}
 use Rattle.std.proofs.lemmas.Slice.Eq.{bytes_eq-Decides}
@@ -19,8 +19,9 @@ use Rattle.ir_core.specs.declared.instructions.Inst.{Inst}
 use Rattle.ir_core.specs.declared.module.Module.{Module}
 use Rattle.ir_core.specs.declared.module.Function.{Function}
 use Rattle.ir_core.specs.declared.module.Block.{Block}
+use Rattle.ir_core.specs.declared.rtl.Rtl.TheVariants.{TargetInit}
 use Rattle.ir_core.specs.EntryPoints.{target_init, target_deinit}
-use Rattle.ir_core.specs.MachineOff.{calls_init}
+use Rattle.ir_core.specs.MachineOff.{calls_init, operands_off, kind_off, inst_off}
 use Rattle.ir_core.specs.Wrappers.{block_callees, is_in}
 use Rattle.ir_core.specs.FirstForm
 use Rattle.ir_core.specs.FirstForm.{is_function, is_int_of, is_number, is_register, is_null_ptr, is_constant, is_init_operands, is_init_kind, is_minus_one, are_compared, is_test_kind, is_branch_kind, is_branch, by_test, by_init, is_entry, is_user, is_return_kind, is_return, is_exit, are_kernel_blocks, is_kernel, given, name_of, label_given, block_given, holds, all_apart, has_good_names, is_well_formed, are_functions, is_first_form}
@@ -32,10 +33,14 @@ use Rattle.mem_model.specs.Eval.{truth, compared}
 use Rattle.mem_model.specs.Thread.{Name, Frame, ThreadState}
 use Rattle.ir_core.specs.Places.{inst_in, block_name, function_place, place_in, PhiNode, with_phi, leading_phis, phis_in}
 use Rattle.mem_model.specs.Values.{width_of, register_word, value_word, and_then, of_type}
-use Rattle.mem_model.specs.Next.{NextStep, Local, Pending, Leaves, with_found, with_number, with_result, goes_on, to_label, CallsInit, CallsDeinit, defined_at, callee_of, next_call, next_kind, next_inst}
+use Rattle.mem_model.specs.Next.{NextStep, Local, Pending, Leaves, with_found, with_number, with_result, goes_on, goes_in, to_label, CallsEntry, defined_at, entry_or, callee_of, next_call, next_kind, next_inst}
+use Rattle.mem_model.specs.declared.phase.LoopPoint.TheVariants.{Sleeps}
+use Rattle.mem_model.specs.declared.phase.Phase.TheVariants.{Loops}
+use Rattle.mem_model.specs.Entries.{is_worker, begins_kernel}
 use Rattle.mem_model.specs.Launching.{is_kernel as is_launched}
 use Rattle.mem_model.proofs.Runs.{some_injective, none_is_not_some}
 use Rattle.team_model.specs.Team.{kind_modes, mode_operand, mode_number, inst_modes, block_modes, is_spmd_mode}
+use Rattle.refine_laws.proofs.SameNext.{later_entry}
 
 abbrev pub minus_one : ℕ
 minus_one = 2 ^ 32 - 1
@@ -44,31 +49,51 @@ minus_one = 2 ^ 32 - 1
 
 -- the init call answers the thread's number to it
 abbrev pub Asks : Option Inst → Name → Type 0
-Asks i x = (m : Module) (t : ThreadState) (f : Frame) (rest : List Frame) → next_inst m t f rest i ≡ Local (goes_on t f rest (Some x) (Int t.answers.init))
+Asks i x = (m : Module) (t : ThreadState) (f : Frame) (rest : List Frame) → next_inst m t f rest (option_map inst_off i) ≡ Local (goes_on t f rest (Some x) (Int t.answers.init))
 
 -- a lower number than -1 is told from it
 abbrev pub Tests : Option Inst → Name → Name → Type 0
-Tests i x y = (m : Module) (t : ThreadState) (f : Frame) (rest : List Frame) (n : ℕ) → n < minus_one → f.code.registers x ≡ Some (Int n) → next_inst m t f rest i ≡ Local (goes_on t f rest (Some y) (Int 0))
+Tests i x y = (m : Module) (t : ThreadState) (f : Frame) (rest : List Frame) (n : ℕ) → n < minus_one → f.code.registers x ≡ Some (Int n) → next_inst m t f rest (option_map inst_off i) ≡ Local (goes_on t f rest (Some y) (Int 0))
 
 -- the branch goes to the block with this name
 abbrev pub Branches : Option Inst → Name → Name → Type 0
-Branches i y exit = (m : Module) (t : ThreadState) (f : Frame) (rest : List Frame) → f.code.registers y ≡ Some (Int 0) → next_inst m t f rest i ≡ to_label m t f rest exit
+Branches i y exit = (m : Module) (t : ThreadState) (f : Frame) (rest : List Frame) → f.code.registers y ≡ Some (Int 0) → next_inst m t f rest (option_map inst_off i) ≡ to_label m t f rest exit
 
 -- the return of the outermost call ends the thread
 abbrev pub Returns : Option Inst → Type 0
-Returns i = (m : Module) (t : ThreadState) (f : Frame) → next_inst m t f [] i ≡ Pending Leaves
+Returns i = (m : Module) (t : ThreadState) (f : Frame) → next_inst m t f [] (option_map inst_off i) ≡ Pending Leaves
 
-is_init_callee : (m : Module) (v : Value) → is_function target_init v ≡ true → callee_of m v ≡ CallsInit
-is_init_callee m (GlobalValue x) e = ap (λ b. if b then CallsInit else if bytes_eq x target_deinit then CallsDeinit else defined_at m (function_place m x)) e
+is_init_callee : (m : Module) (v : Value) → is_function target_init v ≡ true → callee_of m v ≡ CallsEntry TargetInit
+is_init_callee m (GlobalValue x) e = ap (λ b. entry_or (if b then Some TargetInit else later_entry x) (defined_at m (function_place m x))) e
 is_init_callee m (IntValue n) e = let f : ⊥ = cc in absurd f
 is_init_callee m Null e = let f : ⊥ = cc in absurd f
 is_init_callee m (Register x) e = let f : ⊥ = cc in absurd f
 
-asks : (flag : Bool) (x : Name) (k : Kind) → is_init_kind flag k ≡ true → (m : Module) (t : ThreadState) (f : Frame) (rest : List Frame) → next_kind m t f rest (Some x) k ≡ Local (goes_on t f rest (Some x) (Int t.answers.init))
+init_calls : (v : Value) → is_function target_init v ≡ true → calls_init v ≡ true
+init_calls (GlobalValue x) e = e
+init_calls (IntValue n) e = let f : ⊥ = cc in absurd f
+init_calls Null e = let f : ⊥ = cc in absurd f
+init_calls (Register x) e = let f : ⊥ = cc in absurd f
+
+-- with the flag off no thread enters the runtime's own loop
+goes_on_off : (t : ThreadState) (f : Frame) (rest : List Frame) (x : Name) (worker : Bool) → (if worker && false then Local (goes_in t f rest (Loops Sleeps)) else Local (goes_on t f rest (Some x) (Int t.answers.init))) ≡ Local (goes_on t f rest (Some x) (Int t.answers.init))
+goes_on_off t f rest x true = refl
+goes_on_off t f rest x false = refl
+
+begins_off : (flag : Bool) (operands : List Typed) → is_init_operands flag operands ≡ true → (t : ThreadState) (f : Frame) (rest : List Frame) (x : Name) → begins_kernel t f rest (Some x) (operands_off operands) ≡ Local (goes_on t f rest (Some x) (Int t.answers.init))
+begins_off flag (a ∷ b ∷ c ∷ []) e t f rest x = goes_on_off t f rest x (is_worker t)
+begins_off flag [] e t f rest x = let g : ⊥ = cc in absurd g
+begins_off flag (a ∷ []) e t f rest x = let g : ⊥ = cc in absurd g
+begins_off flag (a ∷ b ∷ []) e t f rest x = let g : ⊥ = cc in absurd g
+begins_off flag (a ∷ b ∷ c ∷ d ∷ more) e t f rest x = let g : ⊥ = cc in absurd g
+
+asks : (flag : Bool) (x : Name) (k : Kind) → is_init_kind flag k ≡ true → (m : Module) (t : ThreadState) (f : Frame) (rest : List Frame) → next_kind m t f rest (Some x) (kind_off k) ≡ Local (goes_on t f rest (Some x) (Int t.answers.init))
 asks flag x (Call Absent ret callee operands) e m t f rest =
     let p = and_parts (is_int_of 32 ret && is_function target_init callee) (is_init_operands flag operands) e in
     let q = and_parts (is_int_of 32 ret) (is_function target_init callee) p.0 in
-    ap (next_call m t f rest (Some x) operands) (is_init_callee m callee q.1)
+    ap (λ init. next_call m t f rest (Some x) (if init then operands_off operands else operands) (callee_of m callee)) (init_calls callee q.1)
+    ∙ ap (next_call m t f rest (Some x) (operands_off operands)) (is_init_callee m callee q.1)
+    ∙ begins_off flag operands p.1 t f rest x
 asks flag x _ e m t f rest = let g : ⊥ = cc in absurd g
 
 not_same : (n k : ℕ) → n ≢ k → (n == k) ≡ false
@@ -128,13 +153,13 @@ tests_by x y ty a b is (inr p) m t f rest n low h =
     ∙ ap (λ small. compares_with_small t f rest y small n) (is_small n low)
     ∙ ap (λ e. Local (goes_on t f rest (Some y) (Int (truth e)))) (not_same minus_one n (λ e. omega arith))
 
-tests : (x y : Name) (k : Kind) → is_test_kind x k ≡ true → (m : Module) (t : ThreadState) (f : Frame) (rest : List Frame) (n : ℕ) → n < minus_one → f.code.registers x ≡ Some (Int n) → next_kind m t f rest (Some y) k ≡ Local (goes_on t f rest (Some y) (Int 0))
+tests : (x y : Name) (k : Kind) → is_test_kind x k ≡ true → (m : Module) (t : ThreadState) (f : Frame) (rest : List Frame) (n : ℕ) → n < minus_one → f.code.registers x ≡ Some (Int n) → next_kind m t f rest (Some y) (kind_off k) ≡ Local (goes_on t f rest (Some y) (Int 0))
 tests x y (ICmp Eq ty a b) e m t f rest n low h =
     let p = and_parts (is_int_of 32 ty) (are_compared x a b) e in
     tests_by x y ty a b (int_type 32 ty p.0) (sides x a b (is_register x a) refl p.1) m t f rest n low h
 tests x y _ e m t f rest n low h = let g : ⊥ = cc in absurd g
 
-branches : (y user exit : Name) (x : Option Name) (k : Kind) → is_branch_kind y user exit k ≡ true → (m : Module) (t : ThreadState) (f : Frame) (rest : List Frame) → f.code.registers y ≡ Some (Int 0) → next_kind m t f rest x k ≡ to_label m t f rest exit
+branches : (y user exit : Name) (x : Option Name) (k : Kind) → is_branch_kind y user exit k ≡ true → (m : Module) (t : ThreadState) (f : Frame) (rest : List Frame) → f.code.registers y ≡ Some (Int 0) → next_kind m t f rest x (kind_off k) ≡ to_label m t f rest exit
 branches y user exit x (CondBr c then_to else_to) e m t f rest h =
     let p = and_parts (is_int_of 1 c.ty && is_register y c.value && bytes_eq then_to user) (bytes_eq else_to exit) e in
     let q = and_parts (is_int_of 1 c.ty && is_register y c.value) (bytes_eq then_to user) p.0 in
@@ -145,7 +170,7 @@ branches y user exit x (CondBr c then_to else_to) e m t f rest h =
     goes_by ty found = with_found (and_then found (of_type ty)) (λ w. with_number w (λ n. to_label m t f rest (if n == 0 then else_to else then_to)))
 branches y user exit x _ e m t f rest h = let g : ⊥ = cc in absurd g
 
-returns : (x : Option Name) (k : Kind) → is_return_kind k ≡ true → (m : Module) (t : ThreadState) (f : Frame) → next_kind m t f [] x k ≡ Pending Leaves
+returns : (x : Option Name) (k : Kind) → is_return_kind k ≡ true → (m : Module) (t : ThreadState) (f : Frame) → next_kind m t f [] x (kind_off k) ≡ Pending Leaves
 returns x (Ret None) e m t f = refl
 returns x _ e m t f = let g : ⊥ = cc in absurd g
 
@@ -160,12 +185,6 @@ modes_of flag [] e = let f : ⊥ = cc in absurd f
 modes_of flag (a ∷ []) e = let f : ⊥ = cc in absurd f
 modes_of flag (a ∷ b ∷ []) e = let f : ⊥ = cc in absurd f
 modes_of flag (a ∷ b ∷ c ∷ d ∷ more) e = let f : ⊥ = cc in absurd f
-
-init_calls : (v : Value) → is_function target_init v ≡ true → calls_init v ≡ true
-init_calls (GlobalValue x) e = e
-init_calls (IntValue n) e = let f : ⊥ = cc in absurd f
-init_calls Null e = let f : ⊥ = cc in absurd f
-init_calls (Register x) e = let f : ⊥ = cc in absurd f
 
 init_modes : (flag : Bool) (k : Kind) → is_init_kind flag k ≡ true → kind_modes k ≡ 1 ∷ []
 init_modes flag (Call Absent ret callee operands) e =
@@ -192,8 +211,8 @@ entry_by_test flag user exit init test branch x (Some y) hx ho k e =
     record {
       x = x;
       y = y;
-      asks = λ m t f rest. ap (λ r. next_kind m t f rest r init.kind) hx ∙ asks flag x init.kind k m t f rest;
-      tests = λ m t f rest n low h. ap (λ r. next_kind m t f rest r test.kind) ho ∙ tests x y test.kind p.0 m t f rest n low h;
+      asks = λ m t f rest. ap (λ r. next_kind m t f rest r (kind_off init.kind)) hx ∙ asks flag x init.kind k m t f rest;
+      tests = λ m t f rest n low h. ap (λ r. next_kind m t f rest r (kind_off test.kind)) ho ∙ tests x y test.kind p.0 m t f rest n low h;
       branches = λ m t f rest h. branches y user exit branch.result branch.kind b.1 m t f rest h;
       generic = λ more. ap (λ ms. is_spmd_mode ((ms ++ flat_map inst_modes (test ∷ branch ∷ [])) ++ more)) (init_modes flag init.kind k);
     }

@@ -1,10 +1,13 @@
 pub mod Stored
 pub mod SourceRun
 pub mod TeamRun
+pub mod QuietSteps
+pub mod QuietForm
 pub mod SameNext
 pub mod AlikeMemory
 pub mod KernelShape
 pub mod ListPlaces
+pub mod WayOut
 pub mod Workers
 pub mod Relation
 pub mod EachStep

@@ -1,21 +1,23 @@
 -- What ties a source state to a team state: the same main thread, memories that are alike, and workers on their way out.
-use Rattle.std.proofs.Common.{◌≡◌, ◌≢◌, ℕ, zero, suc, ◌+◌, ◌-◌, ◌<◌, ◌≤◌, List, [], length, Bool, true, false, Option, Some, None, refl, sym, ◌∙◌, arith, length-set}
-use Rattle.std.specs.Prelude.{slice_get, slice_set}
+use Rattle.std.proofs.Common.{◌≡◌, ◌≢◌, ℕ, suc, ◌+◌, ◌<◌, ◌≤◌, List, [], ◌∷◌, length, map, Bool, true, false, Option, Some, None, refl, sym, ap, ◌∙◌, subst, arith, length-set}
+use Rattle.std.specs.Prelude.{slice_get, slice_set, if◌then◌else◌}
 use Rattle.std.specs.List.{list_all}
 use Rattle.std.proofs.lemmas.Option.{slice_get_within}
 use Rattle.ir_core.specs.declared.module.Module.{Module}
-use Rattle.ir_core.specs.declared.module.Function.{Function}
+use Rattle.ir_core.specs.MachineOff.{machine_off}
 use Rattle.mem_model.specs.declared.launch.Launch.{Launch}
+use Rattle.mem_model.specs.declared.step.Barrier.{Barrier}
+use Rattle.mem_model.specs.declared.step.Barrier.TheVariants.{Team as TeamBarrier}
 use Rattle.mem_model.specs.Memory.{Memory}
 use Rattle.mem_model.specs.Thread.{ThreadState}
-use Rattle.source_model.specs.Source.{SourceState}
+use Rattle.source_model.specs.Source.{SourceState, has_returned}
 use Rattle.team_model.specs.declared.Stand.{Stand}
 use Rattle.team_model.specs.declared.Stand.TheVariants.{Runs, Waits, Ended as Gone}
-use Rattle.team_model.specs.Team.{Team}
+use Rattle.team_model.specs.Team.{Team, is_complete, goes_again, leaves}
+use Rattle.refine_laws.proofs.QuietSteps.{RunsUser}
 use Rattle.refine_laws.proofs.AlikeMemory.{Alike}
 use Rattle.refine_laws.proofs.ListPlaces.{set_here, set_else, all_after_set, total_of, total_falls, both_set, first_set}
-use Rattle.refine_laws.proofs.KernelShape.{KernelShape}
-use Rattle.refine_laws.proofs.Workers.{worker}
+use Rattle.refine_laws.proofs.WayOut.{WayOut, steps_left, worker_stand, runs_until, gone_behind}
 
 abbrev pub stand_of : Bool → Stand
 stand_of true = Gone
@@ -25,21 +27,6 @@ stand_of false = Runs
 abbrev pub is_free : Stand → Bool
 is_free (Waits b) = false
 is_free _ = true
-
--- a worker has four steps
-abbrev pub steps_left : ℕ → ℕ
-steps_left j = 4 - j
-
--- how a worker stands after j steps
-abbrev pub worker_stand : ℕ → Stand
-worker_stand (suc (suc (suc (suc j)))) = Gone
-worker_stand _ = Runs
-
-goes_on_running : (j : ℕ) → j < 3 → worker_stand (suc j) ≡ worker_stand j
-goes_on_running zero h = refl
-goes_on_running (suc zero) h = refl
-goes_on_running (suc (suc zero)) h = refl
-goes_on_running (suc (suc (suc j))) h = absurd (omega arith)
 
 -- the source behind a step of its main thread
 abbrev pub source_moved : SourceState → ThreadState → Memory → SourceState
@@ -53,13 +40,31 @@ team_moved t d v b slot = record { shared = record t.shared { common = record t.
 abbrev pub team_left : Team → ℕ → Team
 team_left t d = record t { shared = record t.shared { stands = slice_set t.shared.stands d Gone } }
 
-module _ (m : Module) (l : Launch) (k : ℕ) (g : Function) (there : slice_get m.functions k ≡ Some g) (sh : KernelShape g.blocks) where
+-- ---- a barrier that opens where no thread waits changes nothing
+
+goes_again_free : (kind : Barrier) (xs : List Stand) → list_all is_free xs ≡ true → map (goes_again kind) xs ≡ xs
+goes_again_free kind [] free = refl
+goes_again_free kind (Runs ∷ xs) free = ap (λ ys. Runs ∷ ys) (goes_again_free kind xs free)
+goes_again_free kind (Gone ∷ xs) free = ap (λ ys. Gone ∷ ys) (goes_again_free kind xs free)
+goes_again_free kind (Waits b ∷ xs) free = let f : ⊥ = cc in absurd f
+
+opened_free : (kind : Barrier) (xs : List Stand) → list_all is_free xs ≡ true → (complete : Bool) → (if complete then map (goes_again kind) xs else xs) ≡ xs
+opened_free kind xs free true = goes_again_free kind xs free
+opened_free kind xs free false = refl
+
+pub leaves_is : (t : Team) (d : ℕ) → list_all is_free t.shared.stands ≡ true → team_left t d ≡ leaves t d
+leaves_is t d free =
+    let stands = slice_set t.shared.stands d Gone in
+    ap (λ stands. record t { shared = record t.shared { stands = stands } }) (sym (opened_free TeamBarrier stands (all_after_set is_free t.shared.stands d Gone refl free) (is_complete TeamBarrier 0 stands)))
+
+module _ (m : Module) (l : Launch) (last : ℕ) (way : WayOut (machine_off m) l last) where
   pub record Tied (s : SourceState) (t : Team) (n : ℕ) : Type 0 where
     pub memory : Alike s.common.memory t.shared.common.memory
     pub prints : t.shared.common.prints ≡ s.common.prints
     pub main : slice_get t.threads l.threads ≡ Some s.main
     pub main_stand : slice_get t.shared.stands l.threads ≡ Some (stand_of s.returned)
-    pub no_region : s.region ≡ []
+    pub user : RunsUser s.main
+    pub no_region : list_all has_returned s.region ≡ true
     pub source_goes : s.trapped ≡ None
     pub team_goes : t.shared.trapped ≡ None
     pub all_free : list_all is_free t.shared.stands ≡ true
@@ -67,9 +72,9 @@ module _ (m : Module) (l : Launch) (k : ℕ) (g : Function) (there : slice_get m
     -- how far each worker has come
     pub stages : List ℕ
     pub stage_count : length stages ≡ l.threads
-    pub stage_sum : n ≡ total_of steps_left stages
-    pub workers : (i j : ℕ) → slice_get stages i ≡ Some j → slice_get t.threads i ≡ Some (worker m l k g there sh i j)
-    pub worker_stands : (i j : ℕ) → slice_get stages i ≡ Some j → slice_get t.shared.stands i ≡ Some (worker_stand j)
+    pub stage_sum : n ≡ total_of (steps_left last) stages
+    pub workers : (i j : ℕ) → slice_get stages i ≡ Some j → slice_get t.threads i ≡ Some (way.state i j)
+    pub worker_stands : (i j : ℕ) → slice_get stages i ≡ Some j → slice_get t.shared.stands i ≡ Some (worker_stand last j)
 
   -- a worker is not the main thread
   pub is_not_main : (s : SourceState) (t : Team) (n : ℕ) (r : Tied s t n) (i j : ℕ) → slice_get r.stages i ≡ Some j → l.threads ≢ i
@@ -79,12 +84,13 @@ module _ (m : Module) (l : Launch) (k : ℕ) (g : Function) (there : slice_get m
   main_is_not s t n r i j h e = is_not_main s t n r i j h (sym e)
 
   -- the main thread makes a step
-  pub main_moves : (s : SourceState) (t : Team) (n : ℕ) → Tied s t n → (v : ThreadState) (a b : Memory) (slot : Option ℕ) → Alike a b → Tied (source_moved s v a) (team_moved t l.threads v b slot) n
-  main_moves s t n r v a b slot alike = record {
+  pub main_moves : (s : SourceState) (t : Team) (n : ℕ) → Tied s t n → (v : ThreadState) (a b : Memory) (slot : Option ℕ) → RunsUser v → Alike a b → Tied (source_moved s v a) (team_moved t l.threads v b slot) n
+  main_moves s t n r v a b slot user alike = record {
     memory = alike;
     prints = r.prints;
     main = set_here t.threads l.threads v s.main r.main;
     main_stand = r.main_stand;
+    user = user;
     no_region = r.no_region;
     source_goes = r.source_goes;
     team_goes = r.team_goes;
@@ -104,6 +110,7 @@ module _ (m : Module) (l : Launch) (k : ℕ) (g : Function) (there : slice_get m
     prints = r.prints;
     main = r.main;
     main_stand = set_here t.shared.stands l.threads Gone _ r.main_stand;
+    user = r.user;
     no_region = r.no_region;
     source_goes = r.source_goes;
     team_goes = r.team_goes;
@@ -117,17 +124,18 @@ module _ (m : Module) (l : Launch) (k : ℕ) (g : Function) (there : slice_get m
   }
 
   -- a worker makes a step on its way
-  pub worker_moves : (s : SourceState) (t : Team) (n : ℕ) (r : Tied s t n) (d j : ℕ) → slice_get r.stages d ≡ Some j → j < 3 →
-      (after : ℕ) × (1 + after ≤ n) × Tied s (record t { threads = slice_set t.threads d (worker m l k g there sh d (suc j)) }) after
+  pub worker_moves : (s : SourceState) (t : Team) (n : ℕ) (r : Tied s t n) (d j : ℕ) → slice_get r.stages d ≡ Some j → j < last →
+      (after : ℕ) × (1 + after ≤ n) × Tied s (record t { threads = slice_set t.threads d (way.state d (suc j)) }) after
   worker_moves s t n r d j h low =
-      let paid = total_falls steps_left r.stages d (suc j) j h (omega arith) in (
-        total_of steps_left (slice_set r.stages d (suc j)),
+      let paid = total_falls (steps_left last) r.stages d (suc j) j h (omega arith) in (
+        total_of (steps_left last) (slice_set r.stages d (suc j)),
         omega (arith, r.stage_sum),
         record {
           memory = r.memory;
           prints = r.prints;
           main = set_else t.threads d l.threads _ (is_not_main s t n r d j h) ∙ r.main;
           main_stand = r.main_stand;
+          user = r.user;
           no_region = r.no_region;
           source_goes = r.source_goes;
           team_goes = r.team_goes;
@@ -136,30 +144,33 @@ module _ (m : Module) (l : Launch) (k : ℕ) (g : Function) (there : slice_get m
           stages = slice_set r.stages d (suc j);
           stage_count = length-set r.stages d (suc j) ∙ r.stage_count;
           stage_sum = refl;
-          workers = both_set r.stages t.threads (worker m l k g there sh) r.workers d (suc j) j h;
-          worker_stands = first_set r.stages t.shared.stands (λ _ j. worker_stand j) r.worker_stands d (suc j) j h (goes_on_running j low);
+          workers = both_set r.stages t.threads way.state r.workers d (suc j) j h;
+          worker_stands = first_set r.stages t.shared.stands (λ _ j. worker_stand last j) r.worker_stands d (suc j) j h (runs_until last (suc j) (omega arith) ∙ sym (runs_until last j (omega arith)));
         },
       )
 
-  pub worker_leaves : (s : SourceState) (t : Team) (n : ℕ) (r : Tied s t n) (d : ℕ) → slice_get r.stages d ≡ Some 3 → (after : ℕ) × (1 + after ≤ n) × Tied s (team_left t d) after
+  pub worker_leaves : (s : SourceState) (t : Team) (n : ℕ) (r : Tied s t n) (d : ℕ) → slice_get r.stages d ≡ Some last → (after : ℕ) × (1 + after ≤ n) × Tied s (team_left t d) after
   worker_leaves s t n r d h =
-      let paid = total_falls steps_left r.stages d 4 3 h (omega arith) in (
-        total_of steps_left (slice_set r.stages d 4),
+      let paid = total_falls (steps_left last) r.stages d (suc last) last h (omega arith) in (
+        total_of (steps_left last) (slice_set r.stages d (suc last)),
         omega (arith, r.stage_sum),
         record {
           memory = r.memory;
           prints = r.prints;
           main = r.main;
-          main_stand = set_else t.shared.stands d l.threads Gone (is_not_main s t n r d 3 h) ∙ r.main_stand;
+          main_stand = set_else t.shared.stands d l.threads Gone (is_not_main s t n r d last h) ∙ r.main_stand;
+          user = r.user;
           no_region = r.no_region;
           source_goes = r.source_goes;
           team_goes = r.team_goes;
           all_free = all_after_set is_free t.shared.stands d Gone refl r.all_free;
           count = r.count;
-          stages = slice_set r.stages d 4;
-          stage_count = length-set r.stages d 4 ∙ r.stage_count;
+          stages = slice_set r.stages d (suc last);
+          stage_count = length-set r.stages d (suc last) ∙ r.stage_count;
           stage_sum = refl;
-          workers = first_set r.stages t.threads (worker m l k g there sh) r.workers d 4 3 h refl;
-          worker_stands = both_set r.stages t.shared.stands (λ _ j. worker_stand j) r.worker_stands d 4 3 h;
+          workers = first_set r.stages t.threads way.state r.workers d (suc last) last h (way.stays d);
+          worker_stands =
+              subst (λ stand. (i j : ℕ) → slice_get (slice_set r.stages d (suc last)) i ≡ Some j → slice_get (slice_set t.shared.stands d stand) i ≡ Some (worker_stand last j)) (gone_behind last)
+              (both_set r.stages t.shared.stands (λ _ j. worker_stand last j) r.worker_stands d (suc last) last h);
         },
       )

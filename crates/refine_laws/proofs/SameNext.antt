@@ -1,6 +1,6 @@
--- The module with its machine off has the same next step at every thread state.
-use Rattle.std.proofs.Common.{◌≡◌, ℕ, ◌+◌, List, [], ◌∷◌, ◌++◌, Bool, true, false, Option, Some, None, Ok, refl, ap, ◌∙◌, length, map}
-use Rattle.std.specs.Prelude.{slice_get, option_map, if◌then◌else◌}
+-- The module with its machine off has the same next step at every state of a thread that runs user code.
+use Rattle.std.proofs.Common.{◌≡◌, ℕ, ◌+◌, List, [], ◌∷◌, ◌++◌, Bool, true, false, Option, Some, None, Ok, refl, sym, ap, ◌∙◌, length, map, drop}
+use Rattle.std.specs.Prelude.{◌&&◌, slice_get, option_map, if◌then◌else◌}
 use Rattle.std.specs.List.{flat_map}
 use Rattle.std.specs.Str.{bytes_eq}
 use Rattle.std.proofs.lemmas.Option.{slice_get-map}
@@ -19,20 +19,28 @@ use Rattle.ir_core.specs.declared.instructions.Value.TheVariants.{Int as IntValu
 use Rattle.ir_core.specs.declared.instructions.Typed.{Typed}
 use Rattle.ir_core.specs.declared.instructions.Kind.{Kind}
 use Rattle.ir_core.specs.declared.instructions.Kind.TheVariants.{Phi, Alloca, Gep, Fence, Call, Br, CondBr, Switch, Ret, Unreachable}
-use Rattle.ir_core.specs.EntryPoints.{target_init, target_deinit}
+use Rattle.ir_core.specs.declared.rtl.Rtl.{Rtl}
+use Rattle.ir_core.specs.declared.rtl.Rtl.TheVariants.{TargetInit, TargetDeinit, Parallel}
+use Rattle.ir_core.specs.EntryPoints.{target_init, entry_points}
 use Rattle.ir_core.specs.MachineOff.{calls_init, operands_off, kind_off, inst_off, block_off, function_off, machine_off}
 use Rattle.mem_model.specs.declared.launch.Launch.{Launch}
 use Rattle.mem_model.specs.declared.memory.BlockName.TheVariants.{Global as GlobalBlock}
 use Rattle.mem_model.specs.declared.memory.Byte.{Byte}
 use Rattle.mem_model.specs.declared.memory.Word.{Word}
+use Rattle.mem_model.specs.declared.memory.Word.TheVariants.{Int}
+use Rattle.mem_model.specs.declared.phase.LoopPoint.TheVariants.{Sleeps}
+use Rattle.mem_model.specs.declared.phase.Phase.TheVariants.{Begins, Loops}
 use Rattle.mem_model.specs.Memory.{Memory, no_blocks, with_block}
 use Rattle.mem_model.specs.Thread.{Name, Place, Registers, Answers, Frame, ThreadState, assigned, bound}
 use Rattle.ir_core.specs.Places.{block_in, inst_in, inst_at, block_name, labels_of, labels, function_name, function_place, global_place, place_in, PhiNode, with_phi, leading_phis, phis_in, phis_at, edge_from, name_in, label_at}
 use Rattle.mem_model.specs.Values.{address_of, value_word, of_type, operand, and_then, operand_words, index_of, path_of}
-use Rattle.mem_model.specs.Next.{NextStep, Local, with_found, with_frames, goes_on, phi_word, with_phis, enters, to_block, to_label, CallsInit, CallsDeinit, CallsFunction, CallsOther, Callee, with_body, defined_as, defined_at, callee_of, called, next_call, next_kind, next_inst, next_frames, Next, result_of, resumed_frames, resumed, line_of, frames_line, line_at}
+use Rattle.mem_model.specs.Regions.{function_named, number_given, fork_by, fork_of}
+use Rattle.mem_model.specs.Entries.{first_named, is_worker, runs_loop, begins_kernel, forks, next_known, next_entry}
+use Rattle.mem_model.specs.Next.{NextStep, Local, with_found, with_result, with_frames, goes_on, goes_in, phi_word, with_phis, enters, to_block, to_label, CallsEntry, CallsFunction, CallsOther, Callee, with_body, defined_as, defined_at, entry_or, callee_of, called, next_call, next_kind, next_inst, next_in, next_frames, Next, result_of, resumed_frames, resumed, line_of, frames_line, line_at}
 use Rattle.mem_model.specs.Globals.{padded, Filled, found_bytes, init_layer, element_layer, contents, with_globals}
-use Rattle.mem_model.specs.Launching.{params_of, arg_words, first_registers, thread_at, first_thread, with_buffers, first_memory}
+use Rattle.mem_model.specs.Launching.{params_of, arg_words, first_registers, Role, idle_thread, thread_at, first_thread, with_buffers, first_memory}
 use Rattle.team_model.specs.Team.{mode_operand, kind_modes, inst_modes, block_modes, is_spmd_mode, is_spmd_function, function_at, is_spmd}
+use Rattle.refine_laws.proofs.QuietSteps.{AllBegin, RunsUser}
 
 -- ---- look-ups
 
@@ -131,7 +139,7 @@ to_block_same m t f rest (Some b) =
     (λ i. enters_with (machine_off m) t f rest b (label_at_same m f.code.at i) (phis_at_same m f.code.at.function b i))
     ∙ (λ i. with_found (with_phis_same m f.code.registers (label_at m f.code.at) (phis_at m f.code.at.function b) f.code.registers i) (enters t f rest (phi_place f b (phis_at m f.code.at.function b))))
 
-to_label_same : (m : Module) (t : ThreadState) (f : Frame) (rest : List Frame) (x : Name) → to_label (machine_off m) t f rest x ≡ to_label m t f rest x
+pub to_label_same : (m : Module) (t : ThreadState) (f : Frame) (rest : List Frame) (x : Name) → to_label (machine_off m) t f rest x ≡ to_label m t f rest x
 to_label_same m t f rest x = ap (λ ls. to_block (machine_off m) t f rest (place_in ls x)) (labels_same m f.code.at.function) ∙ to_block_same m t f rest (place_in (labels m f.code.at.function) x)
 
 -- ---- calls
@@ -148,53 +156,77 @@ defined_at_same : (m : Module) (o : Option ℕ) → defined_at (machine_off m) o
 defined_at_same m None = refl
 defined_at_same m (Some k) = ap (defined_as k) (slice_get-map function_off m.functions k) ∙ defined_as_same k (slice_get m.functions k)
 
+named_same : (m : Module) (v : Value) → function_named (machine_off m) v ≡ function_named m v
+named_same m (GlobalValue x) = function_place_same m x
+named_same m _ = refl
+
+fork_same : (m : Module) (operands : List Typed) → fork_of (machine_off m) operands ≡ fork_of m operands
+fork_same m (place ∷ number ∷ test ∷ threads ∷ bind ∷ function ∷ wrapper ∷ words ∷ n ∷ []) = λ i. fork_by (named_same m function.value i) (named_same m wrapper.value i) (number_given n.value)
+fork_same m _ = refl
+
+entry_same : (m : Module) (t : ThreadState) (f : Frame) (rest : List Frame) (x : Option Name) (operands : List Typed) (r : Rtl) → next_entry (machine_off m) t f rest x operands r ≡ next_entry m t f rest x operands r
+entry_same m t f rest x operands TargetInit = refl
+entry_same m t f rest x operands TargetDeinit = refl
+entry_same m t f rest x operands Parallel = λ i. with_found (words_same m f.code.registers operands i) (λ words. with_result (fork_same m operands i) (forks t f rest words))
+entry_same m t f rest x operands r = ap (λ found. with_found found (next_known t f rest x r)) (words_same m f.code.registers operands)
+
 next_call_same : (m : Module) (t : ThreadState) (f : Frame) (rest : List Frame) (x : Option Name) (operands : List Typed) (c : Callee) → next_call (machine_off m) t f rest x operands c ≡ next_call m t f rest x operands c
-next_call_same m t f rest x operands CallsInit = refl
-next_call_same m t f rest x operands CallsDeinit = refl
+next_call_same m t f rest x operands (CallsEntry r) = entry_same m t f rest x operands r
 next_call_same m t f rest x operands (CallsFunction k ps) = ap (λ found. with_found found (λ words. Local (with_frames t (called k ps words x ∷ f ∷ rest)))) (words_same m f.code.registers operands)
 next_call_same m t f rest x operands CallsOther = refl
 
--- an init call reads no operand
-either_call_same : (m : Module) (t : ThreadState) (f : Frame) (rest : List Frame) (x : Option Name) (operands : List Typed) (init : Bool) (c : Callee) →
-    next_call (machine_off m) t f rest x (if init then operands_off operands else operands) (if init then CallsInit else c) ≡ next_call m t f rest x operands (if init then CallsInit else c)
-either_call_same m t f rest x operands true c = refl
-either_call_same m t f rest x operands false c = next_call_same m t f rest x operands c
+-- the entry points behind __kmpc_target_init
+abbrev pub later_entry : Name → Option Rtl
+later_entry y = first_named (drop 1 entry_points) y
 
-call_same : (m : Module) (t : ThreadState) (f : Frame) (rest : List Frame) (x : Option Name) (operands : List Typed) (v : Value) →
-    next_call (machine_off m) t f rest x (if calls_init v then operands_off operands else operands) (callee_of (machine_off m) v) ≡ next_call m t f rest x operands (callee_of m v)
-call_same m t f rest x operands (GlobalValue y) =
-    (λ i. next_call (machine_off m) t f rest x (if bytes_eq y target_init then operands_off operands else operands) (if bytes_eq y target_init then CallsInit else if bytes_eq y target_deinit then CallsDeinit else defined_here i))
-    ∙ either_call_same m t f rest x operands (bytes_eq y target_init) (if bytes_eq y target_deinit then CallsDeinit else defined_at m (function_place m y))
-  where
-    defined_here : defined_at (machine_off m) (function_place (machine_off m) y) ≡ defined_at m (function_place m y)
-    defined_here = ap (defined_at (machine_off m)) (function_place_same m y) ∙ defined_at_same m (function_place m y)
-call_same m t f rest x operands _ = refl
+module _ (m : Module) (t : ThreadState) (user : is_worker t ≡ false) (f : Frame) (rest : List Frame) where
+  -- an init call reads no operand but its flag, which says nothing to a thread that runs user code
+  begins_same : (x : Option Name) (a b : List Typed) → begins_kernel t f rest x a ≡ begins_kernel t f rest x b
+  begins_same x a b = goes_by a ∙ sym (goes_by b)
+    where
+      goes_by : (operands : List Typed) → begins_kernel t f rest x operands ≡ Local (goes_on t f rest x (Int t.answers.init))
+      goes_by operands = ap (λ worker. if worker && runs_loop operands then Local (goes_in t f rest (Loops Sleeps)) else Local (goes_on t f rest x (Int t.answers.init))) user
 
--- ---- steps
+  either_call_same : (x : Option Name) (operands : List Typed) (init : Bool) (o : Option Rtl) (c : Callee) →
+      next_call (machine_off m) t f rest x (if init then operands_off operands else operands) (entry_or (if init then Some TargetInit else o) c) ≡ next_call m t f rest x operands (entry_or (if init then Some TargetInit else o) c)
+  either_call_same x operands true o c = begins_same x (operands_off operands) operands
+  either_call_same x operands false o c = next_call_same m t f rest x operands (entry_or o c)
 
-kind_same : (m : Module) (t : ThreadState) (f : Frame) (rest : List Frame) (x : Option Name) (k : Kind) → next_kind (machine_off m) t f rest x (kind_off k) ≡ next_kind m t f rest x k
-kind_same m t f rest x (Call tail_word ret callee operands) = call_same m t f rest x operands callee
-kind_same m t f rest x (Phi ty edges) = refl
-kind_same m t f rest x (Alloca ty align) = refl
-kind_same m t f rest x (Fence order) = refl
-kind_same m t f rest x (Ret None) = refl
-kind_same m t f rest x Unreachable = refl
-kind_same m t f rest x (Br to) = to_label_same m t f rest to
-kind_same m t f rest x (CondBr c then_to else_to) = simp (value_same m, to_label_same m) refl
-kind_same m t f rest x (Switch on other cases) = simp (value_same m, to_label_same m) refl
-kind_same m t f rest x (Gep inbounds ty base path) = simp (value_same m, path_same m) refl
-kind_same m t f rest x _ = simp (value_same m) refl
+  call_same : (x : Option Name) (operands : List Typed) (v : Value) → next_call (machine_off m) t f rest x (if calls_init v then operands_off operands else operands) (callee_of (machine_off m) v) ≡ next_call m t f rest x operands (callee_of m v)
+  call_same x operands (GlobalValue y) =
+      (λ i. next_call (machine_off m) t f rest x (if bytes_eq y target_init then operands_off operands else operands) (entry_or (if bytes_eq y target_init then Some TargetInit else later_entry y) (defined_here i)))
+      ∙ either_call_same x operands (bytes_eq y target_init) (later_entry y) (defined_at m (function_place m y))
+    where
+      defined_here : defined_at (machine_off m) (function_place (machine_off m) y) ≡ defined_at m (function_place m y)
+      defined_here = ap (defined_at (machine_off m)) (function_place_same m y) ∙ defined_at_same m (function_place m y)
+  call_same x operands _ = refl
 
-inst_same : (m : Module) (t : ThreadState) (f : Frame) (rest : List Frame) (o : Option Inst) → next_inst (machine_off m) t f rest (option_map inst_off o) ≡ next_inst m t f rest o
-inst_same m t f rest None = refl
-inst_same m t f rest (Some i) = kind_same m t f rest i.result i.kind
+  -- ---- steps
 
-frames_same : (m : Module) (t : ThreadState) (fs : List Frame) → next_frames (machine_off m) t fs ≡ next_frames m t fs
-frames_same m t [] = refl
-frames_same m t (f ∷ rest) = ap (next_inst (machine_off m) t f rest) (inst_at_off m f.code.at) ∙ inst_same m t f rest (inst_at m f.code.at)
+  kind_same : (x : Option Name) (k : Kind) → next_kind (machine_off m) t f rest x (kind_off k) ≡ next_kind m t f rest x k
+  kind_same x (Call tail_word ret callee operands) = call_same x operands callee
+  kind_same x (Phi ty edges) = refl
+  kind_same x (Alloca ty align) = refl
+  kind_same x (Fence order) = refl
+  kind_same x (Ret None) = refl
+  kind_same x Unreachable = refl
+  kind_same x (Br to) = to_label_same m t f rest to
+  kind_same x (CondBr c then_to else_to) = simp (value_same m, to_label_same m) refl
+  kind_same x (Switch on other cases) = simp (value_same m, to_label_same m) refl
+  kind_same x (Gep inbounds ty base path) = simp (value_same m, path_same m) refl
+  kind_same x _ = simp (value_same m) refl
 
-pub next_same : (m : Module) (t : ThreadState) → Next (machine_off m) t ≡ Next m t
-next_same m t = frames_same m t t.frames
+  inst_same : (o : Option Inst) → next_inst (machine_off m) t f rest (option_map inst_off o) ≡ next_inst m t f rest o
+  inst_same None = refl
+  inst_same (Some i) = kind_same i.result i.kind
+
+frames_same : (m : Module) (t : ThreadState) → is_worker t ≡ false → (fs : List Frame) → AllBegin fs → next_frames (machine_off m) t fs ≡ next_frames m t fs
+frames_same m t user [] h = refl
+frames_same m t user (f ∷ rest) h =
+    (λ i. next_in (machine_off m) t f rest (inst_at_off m f.code.at i) (h.0 i)) ∙ inst_same m t user f rest (inst_at m f.code.at) ∙ sym (ap (next_in m t f rest (inst_at m f.code.at)) h.0)
+
+pub next_same : (m : Module) (t : ThreadState) → RunsUser t → Next (machine_off m) t ≡ Next m t
+next_same m t user = frames_same m t user.0 t.frames user.1
 
 -- ---- behind an event
 
@@ -254,17 +286,14 @@ params_same (Some f) = refl
 first_registers_same : (m : Module) (k : ℕ) (l : Launch) → first_registers (machine_off m) k l ≡ first_registers m k l
 first_registers_same m k l = ap (λ ps. bound ps (arg_words 0 l.args)) (ap params_of (slice_get-map function_off m.functions k) ∙ params_same (slice_get m.functions k))
 
-thread_at_same : (m : Module) (l : Launch) (own : ℕ) (answers : Answers) (o : Option ℕ) → thread_at (machine_off m) l own answers o ≡ thread_at m l own answers o
-thread_at_same m l own answers None = refl
-thread_at_same m l own answers (Some k) = λ i. record {
-  own = own;
-  counter = 0;
-  frames = record { code = record { at = record { function = k; block = 0; index = 0 }; registers = first_registers_same m k l i; back = None }; blocks = [] } ∷ [];
-  answers = answers;
+thread_at_same : (m : Module) (l : Launch) (role : Role) (answers : Answers) (o : Option ℕ) → thread_at (machine_off m) l role answers o ≡ thread_at m l role answers o
+thread_at_same m l role answers None = refl
+thread_at_same m l role answers (Some k) = λ i. record (idle_thread role answers) {
+  frames = record { code = record { at = record { function = k; block = 0; index = 0 }; phase = Begins; registers = first_registers_same m k l i; back = None }; blocks = [] } ∷ [];
 }
 
-pub first_thread_same : (m : Module) (l : Launch) (own : ℕ) (answers : Answers) → first_thread (machine_off m) l own answers ≡ first_thread m l own answers
-first_thread_same m l own answers = ap (thread_at (machine_off m) l own answers) (function_place_same m l.kernel) ∙ thread_at_same m l own answers (function_place m l.kernel)
+pub first_thread_same : (m : Module) (l : Launch) (role : Role) (answers : Answers) → first_thread (machine_off m) l role answers ≡ first_thread m l role answers
+first_thread_same m l role answers = ap (thread_at (machine_off m) l role answers) (function_place_same m l.kernel) ∙ thread_at_same m l role answers (function_place m l.kernel)
 
 -- ---- the mode
 

@@ -20,7 +20,7 @@ before m = some_or (source_from m) (run (SourceStep (example true)) (Main ∷ Ma
 
 -- the run from the store on, by what the store gives
 abbrev from_store : Memory → Result Memory Trap → Option SourceState
-from_store m r = run (SourceStep (example true)) (Main ∷ Main ∷ []) (acts (example true) (before m) (stored (first_common m) r))
+from_store m r = run (SourceStep (example true)) (Main ∷ Main ∷ []) (acts (example true) (before m) Main (before m).main (stored (first_common m) r))
 
 abbrev last : Memory → Memory → SourceState
 last m after = some_or (source_from m) (from_store m (Ok after))

@@ -1,12 +1,12 @@
 -- The first states are tied.
-use Rattle.std.proofs.Common.{◌≡◌, ℕ, zero, suc, ◌+◌, ◌*◌, List, [], ◌∷◌, ◌++◌, length, map, replicate, true, false, Some, None, refl, sym, ap, ◌∙◌, subst, arith}
+use Rattle.std.proofs.Common.{◌≡◌, ℕ, zero, suc, ◌+◌, ◌*◌, List, [], ◌∷◌, ◌++◌, length, map, replicate, true, false, Option, Some, None, refl, sym, ap, ◌∙◌, subst, arith}
 use Rattle.std.specs.Prelude.{slice_get, option_map}
 use Rattle.std.specs.FinMap as fin
 use Rattle.std.specs.FinMap.{get-insert, get-empty}
 use Rattle.std.specs.List.{list_all}
 use Rattle.std.proofs.lemmas.Option.{slice_get-map}
+use Rattle.std.proofs.Math.Nat.{mul-add}
 use Rattle.ir_core.specs.declared.module.Module.{Module}
-use Rattle.ir_core.specs.declared.module.Function.{Function}
 use Rattle.ir_core.specs.declared.module.Global.{Global}
 use Rattle.ir_core.specs.MachineOff.{machine_off}
 use Rattle.mem_model.specs.declared.launch.Launch.{Launch}
@@ -16,20 +16,20 @@ use Rattle.mem_model.specs.declared.memory.BlockName.TheVariants.{Arg as ArgBloc
 use Rattle.mem_model.specs.declared.memory.Byte.TheVariants.{Num}
 use Rattle.mem_model.specs.Blocks.{block_cmp}
 use Rattle.mem_model.specs.Memory.{Memory, no_blocks}
-use Rattle.mem_model.specs.Thread.{Answers, ThreadState}
+use Rattle.mem_model.specs.Thread.{ThreadState}
 use Rattle.ir_core.specs.Places.{function_place}
 use Rattle.mem_model.specs.Globals.{contents, with_globals}
-use Rattle.mem_model.specs.Launching.{thread_at, first_thread, with_buffer, with_buffers, first_memory, first_common}
+use Rattle.mem_model.specs.Launching.{thread_at, with_buffer, with_buffers, first_memory}
 use Rattle.mem_model.proofs.Orders.{block_total}
 use Rattle.mem_model.proofs.Runs.{none_is_not_some, some_injective}
-use Rattle.source_model.specs.Source.{source_start}
-use Rattle.team_model.specs.Team.{Team, is_spmd_function, function_at, is_spmd, worker_answers, main_answers, threads_from, first_threads, with_captures, runs_at_first, started, team_start}
+use Rattle.source_model.specs.Source.{region_threads, source_start, has_returned}
+use Rattle.team_model.specs.Team.{is_spmd, answers_at, minus_one, role, worker, main_thread, threads_from, first_threads, with_captures, runs_at_first, started, team_start}
+use Rattle.refine_laws.proofs.QuietSteps.{RunsUser}
 use Rattle.refine_laws.proofs.SameNext.{first_memory_same, first_thread_same, spmd_same}
-use Rattle.refine_laws.proofs.AlikeMemory.{captures_alike}
+use Rattle.refine_laws.proofs.AlikeMemory.{Alike, captures_alike}
 use Rattle.refine_laws.proofs.ListPlaces.{total_of}
-use Rattle.refine_laws.proofs.KernelShape.{KernelShape}
-use Rattle.refine_laws.proofs.Workers.{worker}
-use Rattle.refine_laws.proofs.Relation.{is_free, steps_left, worker_stand, Tied}
+use Rattle.refine_laws.proofs.WayOut.{WayOut, steps_left, worker_stand, runs_until}
+use Rattle.refine_laws.proofs.Relation.{is_free, Tied}
 
 -- ---- the first memory has no capture area
 
@@ -64,10 +64,10 @@ unfolding zeros
 length-zeros zero = refl
 length-zeros (suc n) = ap suc (length-zeros n)
 
-total_zeros : (n : ℕ) → total_of steps_left (zeros n) ≡ 4 * n
+total_zeros : (f : ℕ → ℕ) (n : ℕ) → total_of f (zeros n) ≡ f 0 * n
 unfolding zeros total_of
-total_zeros zero = refl
-total_zeros (suc n) = let e = total_zeros n in omega arith
+total_zeros f zero = omega arith
+total_zeros f (suc n) = let e = total_zeros f n in let more = mul-add (f 0) n 1 in omega arith
 
 zero_at : (n i j : ℕ) → slice_get (zeros n) i ≡ Some j → 0 ≡ j
 unfolding zeros
@@ -79,77 +79,70 @@ all_start_free : (ts : List ThreadState) → list_all is_free (map runs_at_first
 all_start_free [] = refl
 all_start_free (t ∷ ts) = all_start_free ts
 
--- ---- the module with its machine off starts the same team
-
-threads_same : (m : Module) (l : Launch) (answers : ℕ → Answers) (t n : ℕ) → threads_from (machine_off m) l answers t n ≡ threads_from m l answers t n
-threads_same m l answers t zero = refl
-threads_same m l answers t (suc n) = λ i. first_thread_same m l t (answers t) i ∷ threads_same m l answers (t + 1) n i
-
-abbrev started_with : Memory → List ThreadState → Team
-started_with memory threads = record {
-  shared = record { common = first_common (with_captures memory); heaps = 0; stands = map runs_at_first threads; slot = None; trapped = None };
-  threads = threads;
-}
-
-abbrev pub generic_start : Module → Launch → Team
-generic_start m l = started m l (first_threads m l false)
-
-start_is : (m : Module) (l : Launch) → is_spmd m l ≡ false → team_start (machine_off m) l ≡ generic_start m l
-start_is m l generic =
-    ap (λ spmd. started (machine_off m) l (first_threads (machine_off m) l spmd)) (spmd_same m l ∙ generic)
-    ∙ ap (started (machine_off m) l) (λ i. threads_same m l (worker_answers l) 0 l.threads i ++ first_thread_same m l l.threads main_answers i ∷ [])
-    ∙ ap (λ memory. started_with memory (first_threads m l false)) (first_memory_same m l)
-
 -- ---- the threads of the team at the start
 
-module _ (m : Module) (l : Launch) (k : ℕ) (g : Function) (there : slice_get m.functions k ≡ Some g) (sh : KernelShape g.blocks) (named : function_place m l.kernel ≡ Some k) where
-  abbrev is_worker : (n : ℕ) → first_thread m l n (worker_answers l n) ≡ worker m l k g there sh n 0
-  is_worker n = ap (thread_at m l n (worker_answers l n)) named
+-- a worker's state, whatever thread stands behind the workers
+workers_begin : (first : ℕ → ThreadState) (x : ThreadState) (n t i j : ℕ) → slice_get (zeros n) i ≡ Some j → slice_get (threads_from first t n ++ x ∷ []) i ≡ Some (first (t + i))
+unfolding zeros
+workers_begin first x zero t i j h = none_is_not_some h
+workers_begin first x (suc n) t zero j h = let e : t ≡ t + 0 = omega arith in ap (λ y. Some (first y)) e
+workers_begin first x (suc n) t (suc i) j h = let e : t + 1 + i ≡ t + suc i = omega arith in workers_begin first x n (t + 1) i j h ∙ ap (λ y. Some (first y)) e
 
-  generic : is_spmd m l ≡ false
-  generic = ap (λ o. is_spmd_function (function_at m o)) named ∙ ap is_spmd_function there ∙ sh.generic
+thread_count : (first : ℕ → ThreadState) (x : ThreadState) (n t : ℕ) → length (threads_from first t n ++ x ∷ []) ≡ suc n
+thread_count first x zero t = refl
+thread_count first x (suc n) t = ap suc (thread_count first x n (t + 1))
 
-  thread_count : (x : ThreadState) (n t : ℕ) → length (threads_from m l (worker_answers l) t n ++ x ∷ []) ≡ suc n
-  thread_count x zero t = refl
-  thread_count x (suc n) t = ap suc (thread_count x n (t + 1))
+main_is_last : (first : ℕ → ThreadState) (x : ThreadState) (n t : ℕ) → slice_get (threads_from first t n ++ x ∷ []) n ≡ Some x
+main_is_last first x zero t = refl
+main_is_last first x (suc n) t = main_is_last first x n (t + 1)
 
-  main_is_last : (x : ThreadState) (n t : ℕ) → slice_get (threads_from m l (worker_answers l) t n ++ x ∷ []) n ≡ Some x
-  main_is_last x zero t = refl
-  main_is_last x (suc n) t = main_is_last x n (t + 1)
+-- no region thread has a call
+all_idle : (l : Launch) (n t : ℕ) → list_all has_returned (region_threads l 0 t n) ≡ true
+all_idle l zero t = refl
+all_idle l (suc n) t = all_idle l n (t + 1)
 
-  workers_begin : (x : ThreadState) (n t i j : ℕ) → slice_get (zeros n) i ≡ Some j → slice_get (threads_from m l (worker_answers l) t n ++ x ∷ []) i ≡ Some (worker m l k g there sh (t + i) j)
-  unfolding zeros
-  workers_begin x zero t i j h = none_is_not_some h
-  workers_begin x (suc n) t zero j h =
-      let e : t ≡ t + 0 = omega arith in ap Some (is_worker t) ∙ ap (λ y. Some (worker m l k g there sh y 0)) e ∙ ap (λ j. Some (worker m l k g there sh (t + 0) j)) (some_injective h)
-  workers_begin x (suc n) t (suc i) j h = let e : t + 1 + i ≡ t + suc i = omega arith in workers_begin x n (t + 1) i j h ∙ ap (λ y. Some (worker m l k g there sh y j)) e
-
-  abbrev first_main : ThreadState
-  first_main = first_thread m l l.threads main_answers
+module _ (m : Module) (l : Launch) (last : ℕ) (way : WayOut (machine_off m) l last) (generic : is_spmd m l ≡ false) where
+  abbrev out : Module
+  out = machine_off m
 
   abbrev first_team : List ThreadState
-  first_team = first_threads m l false
+  first_team = first_threads out l false
 
-  workers_at_first : (i j : ℕ) → slice_get (zeros l.threads) i ≡ Some j → slice_get first_team i ≡ Some (worker m l k g there sh i j)
-  workers_at_first i j h = let e : 0 + i ≡ i = omega arith in workers_begin first_main l.threads 0 i j h ∙ ap (λ x. Some (worker m l k g there sh x j)) e
+  main_runs_user : (o : Option ℕ) → RunsUser (thread_at m l (role l false l.threads) (answers_at minus_one 0) o)
+  main_runs_user None = (refl, tt)
+  main_runs_user (Some p) = (refl, (refl, tt))
 
-  tied_generic : Tied m l k g there sh (source_start m l 0) (generic_start m l) (4 * l.threads)
+  main_at_first : slice_get first_team l.threads ≡ Some (main_thread m l)
+  main_at_first = main_is_last (worker out l) (main_thread out l) l.threads 0 ∙ ap Some (first_thread_same m l (role l false l.threads) (answers_at minus_one 0))
+
+  workers_at_first : (i j : ℕ) → slice_get (zeros l.threads) i ≡ Some j → slice_get first_team i ≡ Some (way.state i j)
+  workers_at_first i j h =
+      let e : 0 + i ≡ i = omega arith in
+      workers_begin (worker out l) (main_thread out l) l.threads 0 i j h ∙ ap (λ x. Some (worker out l x)) e ∙ ap Some (way.begins i) ∙ ap (λ j. Some (way.state i j)) (zero_at l.threads i j h)
+
+  all_left : suc last ≡ steps_left last 0
+  all_left = omega arith
+
+  tied_generic : Tied m l last way (source_start m l 0) (started out l first_team) (suc last * l.threads)
   tied_generic = record {
-    memory = captures_alike (first_memory m l) false (replicate 512 (Num 0)) (first_lacks m l);
+    memory = subst (λ memory. Alike (first_memory m l) (with_captures memory)) (sym (first_memory_same m l)) (captures_alike (first_memory m l) false (replicate 512 (Num 0)) (first_lacks m l));
     prints = refl;
-    main = main_is_last first_main l.threads 0;
-    main_stand = slice_get-map runs_at_first first_team l.threads ∙ ap (option_map runs_at_first) (main_is_last first_main l.threads 0);
-    no_region = refl;
+    main = main_at_first;
+    main_stand = slice_get-map runs_at_first first_team l.threads ∙ ap (option_map runs_at_first) main_at_first;
+    user = main_runs_user (function_place m l.kernel);
+    no_region = all_idle l l.threads 0;
     source_goes = refl;
     team_goes = refl;
     all_free = all_start_free first_team;
-    count = thread_count first_main l.threads 0;
+    count = thread_count (worker out l) (main_thread out l) l.threads 0;
     stages = zeros l.threads;
     stage_count = length-zeros l.threads;
-    stage_sum = sym (total_zeros l.threads);
+    stage_sum = ap (λ k. k * l.threads) all_left ∙ sym (total_zeros (steps_left last) l.threads);
     workers = workers_at_first;
-    worker_stands = λ i j h. slice_get-map runs_at_first first_team i ∙ ap (option_map runs_at_first) (workers_at_first i j h) ∙ ap (λ j. Some (worker_stand j)) (zero_at l.threads i j h);
+    worker_stands = λ i j h.
+        slice_get-map runs_at_first first_team i ∙ ap (option_map runs_at_first) (workers_at_first i j h)
+        ∙ sym (ap Some (runs_until last 0 (omega arith))) ∙ ap (λ j. Some (worker_stand last j)) (zero_at l.threads i j h);
   }
 
-  pub tied_at_start : Tied m l k g there sh (source_start m l 0) (team_start (machine_off m) l) (4 * l.threads)
-  tied_at_start = subst (λ t. Tied m l k g there sh (source_start m l 0) t (4 * l.threads)) (sym (start_is m l generic)) tied_generic
+  pub tied_at_start : Tied m l last way (source_start m l 0) (team_start out l) (suc last * l.threads)
+  tied_at_start = subst (λ spmd. Tied m l last way (source_start m l 0) (started out l (first_threads out l spmd)) (suc last * l.threads)) (sym (spmd_same m l ∙ generic)) tied_generic

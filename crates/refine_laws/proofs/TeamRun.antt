@@ -9,15 +9,15 @@ use Rattle.mem_model.specs.Memory.{Memory, with_block}
 use Rattle.mem_model.specs.Thread.{ThreadState}
 use Rattle.mem_model.specs.Do.{stored}
 use Rattle.mem_model.specs.Runs.{run, Comes}
-use Rattle.mem_model.specs.Launching.{first_memory, first_common}
+use Rattle.mem_model.specs.Launching.{idle_thread, first_memory, first_common}
 use Rattle.team_model.specs.declared.Stand.TheVariants.{Runs}
-use Rattle.team_model.specs.Team.{Team, TeamSystem, main_answers, first_threads, with_captures, TeamStep, team_end, team_outcome, acts}
+use Rattle.team_model.specs.Team.{Team, TeamSystem, answers_at, minus_one, role, first_threads, with_captures, TeamStep, team_end, team_outcome, acts}
 use Rattle.refine_laws.specs.Example.{example, launch, result_of_run}
 use Rattle.refine_laws.proofs.Stored.{HasBuffer, with_seven, goes, shows, stays, first_has, outcome_with, some_or}
 
 abbrev team_from : Memory → Team
 team_from m = record {
-  shared = record { common = first_common m; heaps = 0; stands = Runs ∷ Runs ∷ []; slot = None; trapped = None };
+  shared = record { common = first_common m; stands = Runs ∷ Runs ∷ []; slot = None; trapped = None };
   threads = first_threads (example false) launch false;
 }
 
@@ -25,7 +25,7 @@ abbrev team_before : Memory → Team
 team_before m = some_or (team_from m) (run (TeamStep (example false)) (1 ∷ 1 ∷ 1 ∷ []) (team_from m))
 
 abbrev no_thread : ThreadState
-no_thread = record { own = 0; counter = 0; frames = []; answers = main_answers }
+no_thread = idle_thread (role launch false 1) (answers_at minus_one 0)
 
 -- the main thread before the store
 abbrev main_thread : Memory → ThreadState
