@@ -62,7 +62,7 @@ inst_off_in None at = refl
 inst_off_in (Some b) at = slice_get-map inst_off b.insts at
 
 -- an instruction of the module with its machines off is one of the module
-inst_off_at : (m : Module) (p : Place) → inst_at (machine_off m) p ≡ option_map inst_off (inst_at m p)
+pub inst_off_at : (m : Module) (p : Place) → inst_at (machine_off m) p ≡ option_map inst_off (inst_at m p)
 inst_off_at m p =
     ap (λ f. inst_in (block_in f p.block) p.index) (slice_get-map function_off m.functions p.function)
     ∙ ap (λ b. inst_in b p.index) (block_off_in (slice_get m.functions p.function) p.block)

@@ -33,7 +33,8 @@ entry_is SpmdBarrier = refl
 entry_is GenericBarrier = refl
 entry_is HardwareThreadId = refl
 
-is_named : (rs : List Rtl) (x : Name) (r : Rtl) → first_named rs x ≡ Some r → entry_name r ≡ x
+-- a found entry point has the name
+pub is_named : (rs : List Rtl) (x : Name) (r : Rtl) → first_named rs x ≡ Some r → entry_name r ≡ x
 is_named [] x r e = let f : ⊥ = cc in absurd f
 is_named (s ∷ rs) x r e = by (bytes_eq x (entry_name s)) refl (is_named rs x r) e
   where

@@ -1,5 +1,5 @@
 pub mod Answers
 pub mod Front
-pub mod OutputSizes
+pub mod Served
 pub mod ReplayAnswers
 pub mod ReplayFiles

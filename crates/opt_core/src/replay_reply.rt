@@ -1,7 +1,8 @@
 //! Replies to a replay: what the steps of a schedule make of the team of the optimised module, or the refusal of a launch or a schedule.
-ghost use Rattle.std.specs.Prelude.{◌≡◌, ◌<◌, ◌≤◌, ◌^◌, length, IfOk};
+ghost use Rattle.std.specs.Prelude.{◌≡◌, ◌<◌, ◌≤◌, ◌^◌, length, IfOk, None};
 ghost use Rattle.ir_core.specs.declared.module.Module.{Module as ModuleData};
 ghost use Rattle.ir_core.specs.MachineOff.{machine_off};
+ghost use Rattle.shapes.specs.Refusals.{unbuilt};
 ghost use Rattle.team_model.specs.Team.{team_start};
 ghost use Rattle.interp.specs.Teams.{team_seen, AreThreads};
 ghost use Rattle.interp_local.specs.Operands.{AreFew};
@@ -67,6 +68,7 @@ fn replayed(
     pairs: List<Pair>,
 ) -> Result<Reply, OutOfMemory>
     requires out { out.now ≡ machine_off m.now }
+    requires built { unbuilt m.now ≡ None }
     requires start { team_seen out.now team ≡ team_start out.now l.now }
     requires threads { AreThreads out.now team.threads.items }
     requires few { AreFew out.now }
@@ -100,7 +102,8 @@ fn reply_of(
     l: &Launch,
     text: &[u8],
 ) -> Result<Reply, OutOfMemory>
-    requires { out.now ≡ machine_off m.now }
+    requires out { out.now ≡ machine_off m.now }
+    requires built { unbuilt m.now ≡ None }
     ensures { IfOk result (λ r. IsScheduleReply m.now l.now text.now r.status r.out r.notes) }
 {
     let team = Team::start(alloc, out.indexed(), l)?;
@@ -120,6 +123,7 @@ pub fn reply_to_schedule(
     l: &Launch,
     text: &[u8],
 ) -> Result<Reply, OutOfMemory>
+    requires { unbuilt m.now ≡ None }
     ensures { IfOk result (λ r. IsScheduleReply m.now l.now text.now r.status r.out r.notes) }
 {
     let optimised = optimise(alloc, m)?;

@@ -1,6 +1,7 @@
 //! The top call of `replay`: what the program answers to its words, over the inputs and into the sinks.
 ghost use Rattle.std.specs.Prelude.{◌≡◌, ◌⊎◌, ◌+◌, ◌≤◌, IfOk, IfErr, MatchOption, None, Some};
 ghost use Rattle.checked_modules.specs.Checked.{HasNoRefusal};
+ghost use Rattle.shapes.specs.Refusals.{unbuilt};
 ghost use Rattle.io_edge.specs.Outside.{Rose};
 ghost use Rattle.run_text.specs.LaunchText.{launch_limit, LaunchOf};
 ghost use Rattle.run_text.specs.ScheduleText.{schedule_limit};
@@ -73,7 +74,8 @@ fn reply_to_launched<I: Inputs>(
     inputs: &mut I,
     schedule: &str,
 ) -> Result<Reply, ReadFault>
-    requires { I.served inputs.old schedule.now }
+    requires built { unbuilt m.now ≡ None }
+    requires served { I.served inputs.old schedule.now }
     ensures reply { IfOk result (λ r. OfText (I.held inputs.old schedule.now) (λ text. IsScheduleReply m.now l.now text r.status r.out r.notes)) }
     ensures cause { IfErr result (λ e. e ≡ ReadFault.Failed → Rose (I.faults inputs.old schedule.now) (I.faults inputs.new schedule.now)) }
 {
@@ -90,6 +92,7 @@ fn reply_to_launch<I: Inputs>(
     schedule: &str,
 ) -> Result<Reply, ReadFault>
     requires rules { HasNoRefusal m.now }
+    requires built { unbuilt m.now ≡ None }
     requires served { I.served inputs.old schedule.now }
     ensures reply { IfOk result (λ r. IsLaunchReply m.now (I.held inputs.old schedule.now) (LaunchOf m.now text.now) r.status r.out r.notes) }
     ensures cause { IfErr result (λ e. e ≡ ReadFault.Failed → SpellsLaunch m.now text.now × Rose (I.faults inputs.old schedule.now) (I.faults inputs.new schedule.now)) }
@@ -109,6 +112,7 @@ fn reply_to_module<I: Inputs>(
     paths: &Paths<'_>,
 ) -> Result<Reply, ReadFault>
     requires rules { HasNoRefusal m.now }
+    requires built { unbuilt m.now ≡ None }
     requires launch { I.served inputs.old paths.now.launch.now }
     requires schedule { I.served inputs.old paths.now.schedule.now }
     ensures reply { IfOk result (λ r. OfText (I.held inputs.old paths.now.launch.now) (λ l. IsLaunchReply m.now (I.held inputs.old paths.now.schedule.now) (LaunchOf m.now l) r.status r.out r.notes)) }

@@ -16,5 +16,5 @@ returns-in-Ok c =
     let m = c.args.m.now in
     let l = c.args.l.now in
     let n = c.in_ok-threads.threads in
-    let alike = threads_alike c.indexed.result.now (machine_off m) l c.in_ok-team.team n (c.indexed.ensures.same ∙ c.requires) c.in_ok-team.ensures.state c.in_ok-threads.ensures in
+    let alike = threads_alike c.indexed.result.now (machine_off m) l c.in_ok-team.team n (c.indexed.ensures.same ∙ c.requires.out) c.in_ok-team.ensures.state c.in_ok-threads.ensures in
     schedule_reply m l c.args.text.now n alike (Ok c.in-Ok.pairs) c.replayed.result c.in-Ok.ensures c.replayed.ensures

@@ -7,6 +7,9 @@ use Rattle.opt_core.proofs.replay_top.reply_to_files.Goals as goal
 pub reply_to_module-requires-clause-rules : goal.reply_to_module-requires-clause-rules
 reply_to_module-requires-clause-rules g c = c.in-Ok.ensures.taken.1
 
+pub reply_to_module-requires-clause-built : goal.reply_to_module-requires-clause-built
+reply_to_module-requires-clause-built g c = c.in-Ok.ensures.taken.2
+
 pub returns-in-Ok-clause-reply : goal.returns-in-Ok-clause-reply
 returns-in-Ok-clause-reply g c =
     let held = g.I.Inputs.held c.args.inputs.now in
