@@ -71,6 +71,7 @@ is_not_unbuilt m none p i is = by_function (slice_get m.functions p.function) re
     by_block : (f : Function) → find is_unbuilt (insts_of f) ≡ None → (o : Option Block) → slice_get f.blocks p.block ≡ o → inst_in o p.index ≡ Some i → is_unbuilt i ≡ false
     by_block f all None e h = absurd (none-some i h)
     by_block f all (Some b) e h = none_in is_unbuilt b.insts p.index i (none_flat is_unbuilt block_insts f.blocks p.block b all e) h
+
     by_function : (o : Option Function) → slice_get m.functions p.function ≡ o → inst_in (block_in o p.block) p.index ≡ Some i → is_unbuilt i ≡ false
     by_function None e h = absurd (none-some i h)
     by_function (Some f) e h = by_block f (none_flat is_unbuilt insts_of m.functions p.function f (nothing_found (insts_in m) none) e) (slice_get f.blocks p.block) refl h
@@ -85,14 +86,16 @@ if_built false built c e = let f : ⊥ = cc in absurd f
 first_fails : (q : Rtl → Bool) (rs : List Rtl) (x : Name) (r : Rtl) → list_any q rs ≡ false → first_named rs x ≡ Some r → q r ≡ false
 first_fails q [] x r none e = absurd (none-some r e)
 first_fails q (s ∷ rs) x r none e = by (bytes_eq x (entry_name s)) e
-  (first_part (q s) (list_any q rs) none) (first_fails q rs x r (second_part (q s) (list_any q rs) none))
+    (first_part (q s) (list_any q rs) none) (first_fails q rs x r (second_part (q s) (list_any q rs) none))
   where
     first_part : (a b : Bool) → (a || b) ≡ false → a ≡ false
     first_part false b h = refl
     first_part true b h = h
+
     second_part : (a b : Bool) → (a || b) ≡ false → b ≡ false
     second_part false b h = h
     second_part true b h = let f : ⊥ = cc in absurd f
+
     by : (b : Bool) → (if b then Some s else first_named rs x) ≡ Some r → q s ≡ false → (first_named rs x ≡ Some r → q r ≡ false) → q r ≡ false
     by true h here rest = ap q (sym (same_Some s r h)) ∙ here
     by false h here rest = rest h
