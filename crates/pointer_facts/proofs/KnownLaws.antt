@@ -214,8 +214,8 @@ module _ (m : Module) (May : Spot → Type 0) where
     -- a hop of an instruction or of a side keeps what is known
     pub hop_known : (h : Hop) → Stands (all_hops m) h ⊎ IsSideHop m h → IsKnown h.from → IsKnown h.to
     hop_known h (inl s) = made_known h s
-    hop_known h (inr (inl k)) = let r = k.2 in side_known (Main k.0) r.0 h r.2 r.3
-    hop_known h (inr (inr r)) = side_known Region r.0 h r.2 r.3
+    hop_known h (inr (inl k)) = let r = k.2 in side_known (Main k.0) r.0 h r.2.0 r.2.1
+    hop_known h (inr (inr r)) = side_known Region r.0 h r.2.0 r.2.1
 
     pub reached_known : (hops : List Hop) (roots : List Node) → ((h : Hop) → Stands hops h → Stands (all_hops m) h ⊎ IsSideHop m h) → ((x : Node) → Stands roots x → IsKnown x)
         → (x : Node) → IsReachedBy hops roots x → IsKnown x

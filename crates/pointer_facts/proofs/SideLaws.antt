@@ -14,7 +14,7 @@ use Rattle.register_hops.specs.Hops.{all_hops}
 use Rattle.register_hops.specs.Numbered.{IsNode, Stands, AreNodes, JoinNodes}
 use Rattle.register_hops.proofs.NodeLaws.{hops_join, roots_are}
 use Rattle.register_hops.specs.Roots.{all_roots}
-use Rattle.pointer_facts.specs.SideHops.{IsSide, IsOnSide, hops_on, IsHopBefore, IsHopOnSide, IsMainHopBefore, IsMainHop, IsSideHop, AddsHops}
+use Rattle.pointer_facts.specs.SideHops.{IsSide, IsOnSide, hops_on, IsHopAt, IsHopBefore, IsHopOnSide, IsMainHopBefore, IsMainHop, IsSideHop, AddsHops}
 
 -- ---- hops that are added
 
@@ -60,24 +60,21 @@ module _ (Holds : ℕ → Hop → Type 0) where
 -- ---- functions on a side
 
 module _ (m : Module) (side : Node) where
-  abbrev pub HopAt : ℕ → Hop → Type 0
-  HopAt at h = IsOnSide m side at × Stands (hops_on side at) h
-
   module _ (at : ℕ) (old new : List Hop) where
-    pub adds_on : IsOnSide m side at → new ≡ old ++ hops_on side at → AddsHops (HopAt at) old new
+    pub adds_on : IsOnSide m side at → new ≡ old ++ hops_on side at → AddsHops (IsHopAt m side at) old new
     adds_on on e h =
         let r = adds_behind old (hops_on side at) new e h in
         (λ s. elim (r.0 s) [ inl o ↦ inl o | inr k ↦ inr (on, k) ], λ k. r.1 (elim k [ inl o ↦ inl o | inr j ↦ inr j.1 ]))
 
-    pub adds_off : (IsOnSide m side at → ⊥) → AddsHops (HopAt at) old old
-    adds_off off = adds_none (HopAt at) old (λ h k. off k.0)
+    pub adds_off : (IsOnSide m side at → ⊥) → AddsHops (IsHopAt m side at) old old
+    adds_off off = adds_none (IsHopAt m side at) old (λ h k. off k.0)
 
 -- ---- kernels
 
 module _ (m : Module) (at : ℕ) (f : Function) (there : slice_get m.functions at ≡ Some f) where
   pub no_kernel : is_kernel f ≡ false → (h : Hop) → IsHopOnSide m (Main at) h → ⊥
   no_kernel not h k =
-      let kernel = k.2.0 in
+      let kernel = k.2.0.0 in
       let there_too = kernel.1 in
       let is = kernel.2 in
       let same : kernel.0 ≡ f = cc in
@@ -95,8 +92,8 @@ two_join m side at h low node s =
     ]
 
 side_joins : (m : Module) (h : Hop) → IsSideHop m h → IsNode m h.from × IsNode m h.to
-side_joins m h (inl k) = let r = k.2 in two_join m (Main k.0) r.0 h r.1 k.1 r.3
-side_joins m h (inr r) = two_join m Region r.0 h r.1 tt r.3
+side_joins m h (inl k) = let r = k.2 in two_join m (Main k.0) r.0 h r.1 k.1 r.2.1
+side_joins m h (inr r) = two_join m Region r.0 h r.1 tt r.2.1
 
 pub all_join : (m : Module) (hops : List Hop) → AddsHops (IsSideHop m) (all_hops m) hops → JoinNodes m hops
 all_join m hops adds h s = elim ((adds h).0 s) [ inl a ↦ hops_join m h a | inr k ↦ side_joins m h k ]

@@ -164,8 +164,8 @@ module _ (m : Module) where
 
         over_side : (side : Node) → IsOnSide m side a.function → IsOnSide m side b.function → ((h : Hop) → IsHopOnSide m side h → Stands hops h) → MemoryHop m a b → LeadsOver x y
         over_side side here there stand h =
-            let up = stand (over (Stored a.function) side) (a.function, stored_within h.0, here, (0, refl)) in
-            let down = stand (over side (Loaded b.function)) (b.function, loaded_within h.1, there, (1, refl)) in
+            let up = stand (over (Stored a.function) side) (a.function, stored_within h.0, (here, (0, refl))) in
+            let down = stand (over side (Loaded b.function)) (b.function, loaded_within h.1, (there, (1, refl))) in
             let stored = leads_through (HopsOver hops) x (Stored a.function) side (stored_leads h.0) (one_hop (Stored a.function) side up) in
             let loaded = leads_through (HopsOver hops) side (Loaded b.function) y (one_hop side (Loaded b.function) down) (loaded_leads h.1) in
             leads_through (HopsOver hops) x side y stored loaded

@@ -23,9 +23,13 @@ IsOnSide m _ at = ⊥
 abbrev pub hops_on : Node → ℕ → List Hop
 hops_on side at = record { from = Stored at; to = side } ∷ record { from = side; to = Loaded at } ∷ []
 
+-- a hop of the function at a place, which stands on the side
+abbrev pub IsHopAt : Module → Node → ℕ → Hop → Type 0
+IsHopAt m side at h = IsOnSide m side at × Stands (hops_on side at) h
+
 -- a hop of one of the functions before a place that stand on the side
 abbrev pub IsHopBefore : Module → Node → ℕ → Hop → Type 0
-IsHopBefore m side n h = (at : ℕ) × (at < n) × IsOnSide m side at × Stands (hops_on side at) h
+IsHopBefore m side n h = (at : ℕ) × (at < n) × IsHopAt m side at h
 
 -- a hop of one of the functions on the side
 abbrev pub IsHopOnSide : Module → Node → Hop → Type 0
