@@ -19,12 +19,12 @@ use Rattle.register_hops.specs.Hops.{all_hops}
 use Rattle.register_hops.specs.Roots.{all_roots}
 use Rattle.register_hops.specs.Numbered.{Stands, HopsOver, IsReachedBy, AreReachedRegisters}
 use Rattle.value_facts.specs.Pointers.{Spot, register, spot, CopyHop, MemoryHop, MayBeStack, MayBeOther}
-use Rattle.pointer_facts.specs.Exact.{OfNumber, IsExact, IsMarkedAt}
+use Rattle.pointer_facts.specs.Exact.{roots_elsewhere, OfNumber, IsExact, IsMarkedAt}
 use Rattle.pointer_facts.specs.SideHops.{IsSideHop, AddsHops}
 use Rattle.pointer_facts.proofs.GivenLaws.{IsRegister, node_at, node_of_number, number_of_node, same_value}
 use Rattle.pointer_facts.proofs.KnownLaws.{IsKnown, register_known, reached_known}
 use Rattle.pointer_facts.proofs.RootLaws.{root_from}
-use Rattle.pointer_facts.proofs.FromLaws.{HasNode, has_node, stack_register, elsewhere_has, roots_elsewhere, stack_root, elsewhere_root}
+use Rattle.pointer_facts.proofs.FromLaws.{HasNode, has_node, stack_register, elsewhere_has, stack_root, elsewhere_root}
 use Rattle.pointer_facts.proofs.WholeLaws.{copy_register, memory_register, copy_leads, memory_leads, chain_reached}
 
 module _ (m : Module) where
@@ -33,9 +33,9 @@ module _ (m : Module) where
   module _ (May : Spot → Type 0) (hops : List Hop) (roots : List Node) (row : List Bool) where
     pub exact_row : AreReachedRegisters m hops roots row → ((x : Node) → IsReachedBy hops roots x → IsKnown m May x)
         → ((s : Spot) → May s → (y : Node) × (node_at m s ≡ Some y) × IsReachedBy hops roots y) → IsExact m May row
-    exact_row are known reached n = (λ e. known (Register n) ((are n).0 e).1, λ h. (are n).1 (number_within m h.0 h.1 n h.2, there h)) where
-      there : OfNumber m May n → IsReachedBy hops roots (Register n)
-      there h =
+    exact_row are known reached = record { same = λ n. (λ e. known (Register n) ((are n).0 e).1, λ h. (are n).1 (number_within m h.0 h.1 n h.2, there n h)) } where
+      there : (n : ℕ) → OfNumber m May n → IsReachedBy hops roots (Register n)
+      there n h =
           let r = reached (register h.0 h.1) h.3 in
           let same = same_Some r.0 (Register n) (sym r.1 ∙ node_of_number m h.0 h.1 n h.2) in
           let P : Node → Type 0 = λ y. IsReachedBy hops roots y in
@@ -66,11 +66,11 @@ module _ (m : Module) where
 
   module _ (hops : List Hop) (adds : AddsHops (IsSideHop m) (all_hops m) hops) where
     all_stand : (h : Hop) → Stands (all_hops m) h → Stands hops h
-    all_stand h s = (adds h).1 (inl s)
+    all_stand h s = (adds.same h).1 (inl s)
 
     hop_leads : (a b : Spot) (x y : Node) → node_at m a ≡ Some x → node_at m b ≡ Some y → StackHop a b → Leads (HopsOver hops) x y
     hop_leads a b x y from to (inl h) = copy_leads m hops all_stand a b x y from to h
-    hop_leads a b x y from to (inr h) = memory_leads m hops all_stand a b x y from to (λ g s. (adds g).1 (inr s)) h
+    hop_leads a b x y from to (inr h) = memory_leads m hops all_stand a b x y from to (λ g s. (adds.same g).1 (inr s)) h
 
     stack_reached : (s : Spot) → MayBeStack m s → (y : Node) × (node_at m s ≡ Some y) × IsReachedBy hops (all_roots m FromStack) y
     stack_reached s may =
@@ -80,7 +80,7 @@ module _ (m : Module) where
     pub stack_exact : (row : List Bool) → AreReachedRegisters m hops (all_roots m FromStack) row → IsExact m (MayBeStack m) row
     stack_exact row are =
         exact_row (MayBeStack m) hops (all_roots m FromStack) row are
-        (reached_known m (MayBeStack m) stack_copied stack_kept hops (all_roots m FromStack) (λ h s. (adds h).0 s) stack_known)
+        (reached_known m (MayBeStack m) stack_copied stack_kept hops (all_roots m FromStack) (λ h s. (adds.same h).0 s) stack_known)
         stack_reached
 
   -- ---- pointers elsewhere
@@ -95,16 +95,15 @@ module _ (m : Module) where
   other_has_node : (s : Spot) → MayBeOther m s → HasNode m s
   other_has_node s may = leads_least (CopyHop m) (HasNode m) (λ a b r h. has_node m b (copy_register m a b h)) may.0 s (elsewhere_has m may.0 may.1) may.2
 
-  may_be_null : (at : ℕ) (v : Value) → v ≡ Null → MayBeOther m (spot at v)
-  may_be_null at v e = (spot at v, inr (inr (inr (inl e))), leads_itself (CopyHop m) (spot at v))
-
-  may_be_global : (at : ℕ) (v : Value) (x : Name) → v ≡ GlobalValue x → MayBeOther m (spot at v)
-  may_be_global at v x e = (spot at v, inr (inr (inr (inr (inl (x, e))))), leads_itself (CopyHop m) (spot at v))
+  -- null and globals
+  pub constant_other : (at : ℕ) (v : Value) → (v ≡ Null) ⊎ ((x : Name) × (v ≡ GlobalValue x)) → MayBeOther m (spot at v)
+  constant_other at v (inl e) = (spot at v, inr (inr (inr (inl e))), leads_itself (CopyHop m) (spot at v))
+  constant_other at v (inr e) = (spot at v, inr (inr (inr (inr (inl e)))), leads_itself (CopyHop m) (spot at v))
 
   elsewhere_may : (at : ℕ) (v : Value) → value_node m at v ≡ Some Elsewhere → MayBeOther m (spot at v)
   elsewhere_may at (IntValue n) e = absurd (none-some Elsewhere e)
-  elsewhere_may at Null e = may_be_null at Null refl
-  elsewhere_may at (GlobalValue x) e = may_be_global at (GlobalValue x) x refl
+  elsewhere_may at Null e = constant_other at Null (inl refl)
+  elsewhere_may at (GlobalValue x) e = constant_other at (GlobalValue x) (inr (x, refl))
   elsewhere_may at (LocalValue x) e = let r = number_of_node m at x Elsewhere e in let is = r.2 in let f : ⊥ = cc in absurd f
 
   other_known : (x : Node) → Stands (roots_elsewhere m) x → IsKnown m (MayBeOther m) x
@@ -134,14 +133,14 @@ module _ (m : Module) where
   module _ (May : Spot → Type 0) (row : List Bool) (exact : IsExact m May row) (has : (s : Spot) → May s → HasNode m s) (at : ℕ) (x : Name) where
     may_of_mark : IsMarkedAt m row at x → May (register at x)
     may_of_mark h =
-        let r = (exact h.0).0 h.2 in
+        let r = (exact.same h.0).0 h.2 in
         subst May (sym (same_value m r.0 r.1 h.0 r.2 at (LocalValue x) (node_of_number m at x h.0 h.1))) r.3
 
     mark_of_may : May (register at x) → IsMarkedAt m row at x
     mark_of_may may =
         let node = has (register at x) may in
         let r = number_of_node m at x node.0 node.1 in
-        (r.0, r.1, (exact r.0).1 (at, x, r.1, may))
+        (r.0, r.1, (exact.same r.0).1 (at, x, r.1, may))
 
     pub mark_read : (result : Bool) → (result ≡ true) ↔ IsMarkedAt m row at x → (result ≡ true) ↔ May (register at x)
     mark_read result is = (λ e. may_of_mark (is.0 e), λ may. is.1 (mark_of_may may))
@@ -157,11 +156,5 @@ module _ (m : Module) where
   no_stack at v other may = let r = stack_is_register (spot at v) may in other r.0 r.1
 
   -- a number is no pointer
-  pub no_pointer : (at n : ℕ) → MayBeOther m (spot at (IntValue n)) → ⊥
-  no_pointer at n may = let r = other_has_node (spot at (IntValue n)) may in none-some r.0 r.1
-
-  pub null_other : (at : ℕ) → MayBeOther m (spot at Null)
-  null_other at = may_be_null at Null refl
-
-  pub global_other : (at : ℕ) (x : Name) → MayBeOther m (spot at (GlobalValue x))
-  global_other at x = may_be_global at (GlobalValue x) x refl
+  pub no_pointer : (at n : ℕ) (v : Value) → v ≡ IntValue n → MayBeOther m (spot at v) → ⊥
+  no_pointer at n v e may = let r = other_has_node (spot at v) may in none-some r.0 (ap (value_node m at) (sym e) ∙ r.1)

@@ -28,12 +28,9 @@ use Rattle.register_hops.proofs.MadeLaws.{makes_root, is_root}
 use Rattle.register_hops.proofs.PlacedLaws.{is_given_at}
 use Rattle.value_facts.specs.Sides.{IsRegionFunction}
 use Rattle.value_facts.specs.Pointers.{Spot, StandsIn, Gives, IsParameter, IsMade, IsLoaded, IsFromStack, IsGivenFromOutside, IsFromElsewhere}
+use Rattle.pointer_facts.specs.Exact.{roots_elsewhere}
 use Rattle.pointer_facts.proofs.GivenLaws.{IsRegister, node_at, param_has, result_has, result_of, register_node_at}
 use Rattle.pointer_facts.proofs.RootLaws.{true_either, true_both, is_region_true}
-
--- the roots of the search for what may point elsewhere
-abbrev pub roots_elsewhere : Module → List Node
-roots_elsewhere m = all_roots m FromElsewhere ++ Elsewhere ∷ []
 
 abbrev pub HasNode : Module → Spot → Type 0
 HasNode m s = (x : Node) × (node_at m s ≡ Some x)

@@ -14,28 +14,29 @@ use Rattle.register_hops.specs.Hops.{all_hops}
 use Rattle.register_hops.specs.Numbered.{IsNode, Stands, AreNodes, JoinNodes}
 use Rattle.register_hops.proofs.NodeLaws.{hops_join, roots_are}
 use Rattle.register_hops.specs.Roots.{all_roots}
+use Rattle.pointer_facts.specs.Exact.{roots_elsewhere}
 use Rattle.pointer_facts.specs.SideHops.{IsSide, IsOnSide, hops_on, IsHopAt, IsHopBefore, IsHopOnSide, IsMainHopBefore, IsMainHop, IsSideHop, AddsHops}
 
 -- ---- hops that are added
 
 pub adds_none : (Holds : Hop → Type 0) (old : List Hop) → ((h : Hop) → Holds h → ⊥) → AddsHops Holds old old
-adds_none Holds old none h = (λ s. inl s, λ r. elim r [ inl s ↦ s | inr k ↦ absurd (none h k) ])
+adds_none Holds old none = record { same = λ h. (λ s. inl s, λ r. elim r [ inl s ↦ s | inr k ↦ absurd (none h k) ]) }
 
 pub adds_both : (One Other Both : Hop → Type 0) (old mid new : List Hop) → AddsHops One old mid → AddsHops Other mid new → ((h : Hop) → Both h ↔ (One h ⊎ Other h)) → AddsHops Both old new
-adds_both One Other Both old mid new first second is h = (found, stands) where
-  found : Stands new h → Stands old h ⊎ Both h
-  found s = elim ((second h).0 s) [
-    | inl t ↦ elim ((first h).0 t) [ inl o ↦ inl o | inr k ↦ inr ((is h).1 (inl k)) ]
+adds_both One Other Both old mid new first second is = record { same = λ h. (found h, stands h) } where
+  found : (h : Hop) → Stands new h → Stands old h ⊎ Both h
+  found h s = elim ((second.same h).0 s) [
+    | inl t ↦ elim ((first.same h).0 t) [ inl o ↦ inl o | inr k ↦ inr ((is h).1 (inl k)) ]
     | inr k ↦ inr ((is h).1 (inr k))
   ]
-  stands : Stands old h ⊎ Both h → Stands new h
-  stands (inl o) = (second h).1 (inl ((first h).1 (inl o)))
-  stands (inr b) = elim ((is h).0 b) [ inl k ↦ (second h).1 (inl ((first h).1 (inr k))) | inr k ↦ (second h).1 (inr k) ]
+  stands : (h : Hop) → Stands old h ⊎ Both h → Stands new h
+  stands h (inl o) = (second.same h).1 (inl ((first.same h).1 (inl o)))
+  stands h (inr b) = elim ((is h).0 b) [ inl k ↦ (second.same h).1 (inl ((first.same h).1 (inr k))) | inr k ↦ (second.same h).1 (inr k) ]
 
 pub adds_behind : (old more new : List Hop) → new ≡ old ++ more → AddsHops (Stands more) old new
 adds_behind old more new e =
     let P : List Hop → Type 0 = λ hs. AddsHops (Stands more) old hs in
-    subst P (sym e) (λ h. (λ s. in_either old more h s, λ r. elim r [ inl s ↦ in_front old more h s | inr s ↦ behind old more h s ]))
+    subst P (sym e) (record { same = λ h. (λ s. in_either old more h s, λ r. elim r [ inl s ↦ in_front old more h s | inr s ↦ behind old more h s ]) })
 
 module _ (Holds : ℕ → Hop → Type 0) where
   abbrev Below : ℕ → Hop → Type 0
@@ -62,9 +63,15 @@ module _ (Holds : ℕ → Hop → Type 0) where
 module _ (m : Module) (side : Node) where
   module _ (at : ℕ) (old new : List Hop) where
     pub adds_on : IsOnSide m side at → new ≡ old ++ hops_on side at → AddsHops (IsHopAt m side at) old new
-    adds_on on e h =
-        let r = adds_behind old (hops_on side at) new e h in
-        (λ s. elim (r.0 s) [ inl o ↦ inl o | inr k ↦ inr (on, k) ], λ k. r.1 (elim k [ inl o ↦ inl o | inr j ↦ inr j.1 ]))
+    adds_on on e = record { same = λ h. (λ s. found h ((all.same h).0 s), λ k. (all.same h).1 (stands h k)) } where
+      all : AddsHops (Stands (hops_on side at)) old new
+      all = adds_behind old (hops_on side at) new e
+      found : (h : Hop) → Stands old h ⊎ Stands (hops_on side at) h → Stands old h ⊎ IsHopAt m side at h
+      found h (inl o) = inl o
+      found h (inr k) = inr (on, k)
+      stands : (h : Hop) → Stands old h ⊎ IsHopAt m side at h → Stands old h ⊎ Stands (hops_on side at) h
+      stands h (inl o) = inl o
+      stands h (inr k) = inr k.1
 
     pub adds_off : (IsOnSide m side at → ⊥) → AddsHops (IsHopAt m side at) old old
     adds_off off = adds_none (IsHopAt m side at) old (λ h k. off k.0)
@@ -96,9 +103,9 @@ side_joins m h (inl k) = let r = k.2 in two_join m (Main k.0) r.0 h r.1 k.1 r.2.
 side_joins m h (inr r) = two_join m Region r.0 h r.1 tt r.2.1
 
 pub all_join : (m : Module) (hops : List Hop) → AddsHops (IsSideHop m) (all_hops m) hops → JoinNodes m hops
-all_join m hops adds h s = elim ((adds h).0 s) [ inl a ↦ hops_join m h a | inr k ↦ side_joins m h k ]
+all_join m hops adds h s = elim ((adds.same h).0 s) [ inl a ↦ hops_join m h a | inr k ↦ side_joins m h k ]
 
-pub elsewhere_are : (m : Module) → AreNodes m (all_roots m FromElsewhere ++ Elsewhere ∷ [])
+pub elsewhere_are : (m : Module) → AreNodes m (roots_elsewhere m)
 elsewhere_are m x s = elim (in_either (all_roots m FromElsewhere) (Elsewhere ∷ []) x s) [
   | inl a ↦ roots_are m FromElsewhere x a
   | inr b ↦ let P : Node → Type 0 = λ y. IsNode m y in subst P (sym (last_is Elsewhere x b)) tt

@@ -47,5 +47,5 @@ abbrev pub IsSideHop : Module → Hop → Type 0
 IsSideHop m h = IsMainHop m h ⊎ IsHopOnSide m Region h
 
 -- the hops that there were, and all that have the property
-abbrev pub AddsHops : (Hop → Type 0) → List Hop → List Hop → Type 0
-AddsHops Holds old new = (h : Hop) → Stands new h ↔ (Stands old h ⊎ Holds h)
+pub record AddsHops (Holds : Hop → Type 0) (old new : List Hop) : Type 0 where
+  pub same : (h : Hop) → Stands new h ↔ (Stands old h ⊎ Holds h)

@@ -1,19 +1,17 @@
 //! Which pointers may point into a stack, and which elsewhere.
 ghost use Rattle.std.specs.Prelude.{◌≡◌, ◌↔◌, true, Some, slice_get, IfOk};
-ghost use Rattle.ir_tables.specs.Names.{HasPlaces};
 ghost use Rattle.name_uses.specs.Tables.{AreUses};
 ghost use Rattle.register_hops.specs.Hops.{all_hops};
-ghost use Rattle.register_hops.specs.Roots.{called_by_wrappers};
+ghost use Rattle.register_hops.specs.Roots.{all_roots};
 ghost use Rattle.call_paths.specs.Known.{AreCalls};
 ghost use Rattle.value_facts.specs.Pointers.{spot, MayBeStack, MayBeOther};
-ghost use Rattle.pointer_facts.specs.Exact.{IsExact, IsMarkedAt};
+ghost use Rattle.pointer_facts.specs.Exact.{IsExact, AreExact, AreRoots, IsMarkedAt, roots_elsewhere};
 ghost use Rattle.pointer_facts.specs.SideHops.{IsSideHop, AddsHops};
 
 use crate::sides::add_sides;
 use call_paths::Calls;
 use checked_modules::Checked;
 use ir_core::{List, Module, Name, OutOfMemory, Value};
-use ir_tables::NameTable;
 use name_uses::Uses;
 use register_hops::{Hop, Node, Origin, called_by_wrappers, hops_in, reached_registers, roots_in};
 use register_numbers::Numbering;
@@ -53,21 +51,38 @@ fn names(alloc: Global, m: &Module) -> Result<Uses, OutOfMemory>
     Uses::of(alloc, m, insts.as_slice())
 }
 
+/// Where pointers come from, into a stack and elsewhere.
+#[derive(Drop)]
+struct Roots {
+    stack: List<Node>,
+    other: List<Node>,
+}
+
+/// The roots of both searches; null and all globals are one of them.
+fn roots_of(alloc: Global, numbering: &Numbering) -> Result<Roots, OutOfMemory>
+    ensures { IfOk result (λ roots. AreRoots numbering.now roots.stack roots.other) }
+{
+    let m = numbering.indexed().module();
+    let uses = names(alloc, m)?;
+    let called = called_by_wrappers(alloc, m, &uses)?;
+    let stack = roots_in(alloc, numbering, Origin::FromStack, &uses, &called)?;
+    let mut other = roots_in(alloc, numbering, Origin::FromElsewhere, &uses, &called)?;
+    other.push(Node::Elsewhere)?;
+    Ok(Roots { stack, other })
+}
+
 /// For each register, by its number, whether it may point into a stack: by the hops of copies and of memory.
 fn stack_row(
     alloc: Global,
     numbering: &Numbering,
     hops: &[Hop],
-    uses: &Uses,
-    called: &NameTable,
+    roots: &[Node],
 ) -> Result<List<bool>, OutOfMemory>
     requires hops { AddsHops (IsSideHop numbering.now) (all_hops numbering.now) hops.now }
-    requires uses { AreUses numbering.now uses.now }
-    requires called { HasPlaces (called_by_wrappers numbering.now) called.now }
+    requires roots { roots.now ≡ all_roots numbering.now Origin.FromStack }
     ensures { IfOk result (IsExact numbering.now (MayBeStack numbering.now)) }
 {
-    let roots = roots_in(alloc, numbering, Origin::FromStack, uses, called)?;
-    reached_registers(alloc, numbering, hops, roots.as_slice())
+    reached_registers(alloc, numbering, hops, roots)
 }
 
 /// For each register, by its number, whether it may point elsewhere: by the hops of copies alone, since each load is a root.
@@ -75,17 +90,38 @@ fn other_row(
     alloc: Global,
     numbering: &Numbering,
     hops: &[Hop],
-    uses: &Uses,
-    called: &NameTable,
+    roots: &[Node],
 ) -> Result<List<bool>, OutOfMemory>
     requires hops { hops.now ≡ all_hops numbering.now }
-    requires uses { AreUses numbering.now uses.now }
-    requires called { HasPlaces (called_by_wrappers numbering.now) called.now }
+    requires roots { roots.now ≡ roots_elsewhere numbering.now }
     ensures { IfOk result (IsExact numbering.now (MayBeOther numbering.now)) }
 {
-    let mut roots = roots_in(alloc, numbering, Origin::FromElsewhere, uses, called)?;
-    roots.push(Node::Elsewhere)?;
-    reached_registers(alloc, numbering, hops, roots.as_slice())
+    reached_registers(alloc, numbering, hops, roots)
+}
+
+/// The marks of both searches.
+#[derive(Drop)]
+struct Found {
+    stack: List<bool>,
+    other: List<bool>,
+}
+
+/// Both searches from these roots: the hops of memory are added for the second.
+fn search(
+    alloc: Global,
+    numbering: &Numbering,
+    calls: &Calls,
+    roots: &Roots,
+) -> Result<Found, OutOfMemory>
+    requires calls { AreCalls numbering.now calls.now }
+    requires roots { AreRoots numbering.now roots.now.stack roots.now.other }
+    ensures { IfOk result (λ found. AreExact numbering.now found.stack found.other) }
+{
+    let mut hops = hops_in(alloc, numbering)?;
+    let other = other_row(alloc, numbering, hops.as_slice(), roots.other.as_slice())?;
+    add_sides(&mut hops, numbering.indexed().module(), calls)?;
+    let stack = stack_row(alloc, numbering, hops.as_slice(), roots.stack.as_slice())?;
+    Ok(Found { stack, other })
 }
 
 /// Whether a register of the function at a place has the mark of its number.
@@ -110,16 +146,12 @@ impl<'m> Pointers<'m> {
         ensures { IfOk result (λ p. p ≡ m.now) }
     {
         let numbering = Numbering::of(alloc, m.indexed())?;
-        let uses = names(alloc, m.module())?;
-        let called = called_by_wrappers(alloc, m.module(), &uses)?;
-        let mut hops = hops_in(alloc, &numbering)?;
-        let other = other_row(alloc, &numbering, hops.as_slice(), &uses, &called)?;
-        add_sides(&mut hops, m.module(), calls)?;
-        let stack = stack_row(alloc, &numbering, hops.as_slice(), &uses, &called)?;
+        let roots = roots_of(alloc, &numbering)?;
+        let found = search(alloc, &numbering, calls, &roots)?;
         Ok(Pointers {
             numbering,
-            stack,
-            other,
+            stack: found.stack,
+            other: found.other,
         })
     }
 
@@ -139,7 +171,8 @@ impl<'m> Pointers<'m> {
     {
         match value {
             Value::Local(name) => is_marked(&self.numbering, &self.other, function, name),
-            Value::Null | Value::Global(_) => true,
+            Value::Null => true,
+            Value::Global(_) => true,
             Value::Int(_) => false,
         }
     }

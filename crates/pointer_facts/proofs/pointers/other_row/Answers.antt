@@ -22,17 +22,15 @@ pub reached_registers-requires-clause-roots : goal.reached_registers-requires-cl
 reached_registers-requires-clause-roots c =
     let m = c.args.numbering.now in
     let P : List Node → Type 0 = λ roots. AreNodes m roots in
-    let all = c.as_slice.ensures ∙ c.in_ok-push.ensures.ok ∙ ap (λ (roots : List Node). roots ++ Elsewhere ∷ []) c.in_ok-roots.ensures in
-    subst P (sym all) (elsewhere_are m)
+    subst P (sym c.requires.roots) (elsewhere_are m)
 
 pub returns : goal.returns
 returns c =
     let m = c.args.numbering.now in
-    let given = c.as_slice.result.now in
-    let all = c.as_slice.ensures ∙ c.in_ok-push.ensures.ok ∙ ap (λ (roots : List Node). roots ++ Elsewhere ∷ []) c.in_ok-roots.ensures in
+    let given = c.args.roots.now in
     IfOk-weaker c.reached_registers.result (λ (row : List Bool). AreReachedRegisters m c.args.hops.now given row) (λ (row : List Bool). IsExact m (MayBeOther m) row)
     (λ row are.
     let P : List Hop → Type 0 = λ hops. AreReachedRegisters m hops given row in
     let Q : List Node → Type 0 = λ roots. AreReachedRegisters m (all_hops m) roots row in
-    other_exact m row (subst Q all (subst P c.requires.hops are)))
+    other_exact m row (subst Q c.requires.roots (subst P c.requires.hops are)))
     c.reached_registers.ensures

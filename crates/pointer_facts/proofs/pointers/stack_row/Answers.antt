@@ -17,13 +17,13 @@ pub reached_registers-requires-clause-roots : goal.reached_registers-requires-cl
 reached_registers-requires-clause-roots c =
     let m = c.args.numbering.now in
     let P : List Node → Type 0 = λ roots. AreNodes m roots in
-    subst P (sym (c.as_slice.ensures ∙ c.in_ok-roots.ensures)) (roots_are m FromStack)
+    subst P (sym (c.requires.roots)) (roots_are m FromStack)
 
 pub returns : goal.returns
 returns c =
     let m = c.args.numbering.now in
     let hops = c.args.hops.now in
-    let given = c.as_slice.result.now in
+    let given = c.args.roots.now in
     IfOk-weaker c.reached_registers.result (λ (row : List Bool). AreReachedRegisters m hops given row) (λ (row : List Bool). IsExact m (MayBeStack m) row)
-    (λ row are. let P : List Node → Type 0 = λ roots. AreReachedRegisters m hops roots row in stack_exact m hops c.requires.hops row (subst P (c.as_slice.ensures ∙ c.in_ok-roots.ensures) are))
+    (λ row are. let P : List Node → Type 0 = λ roots. AreReachedRegisters m hops roots row in stack_exact m hops c.requires.hops row (subst P (c.requires.roots) are))
     c.reached_registers.ensures
