@@ -1,0 +1,7 @@
+mod GivenLaws
+mod KnownLaws
+mod RootLaws
+mod FromLaws
+mod WholeLaws
+mod SideLaws
+mod ExactLaws

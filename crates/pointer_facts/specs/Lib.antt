@@ -1,0 +1,2 @@
+pub mod SideHops
+pub mod Exact
