@@ -4,11 +4,11 @@ use Rattle.ir_core.specs.declared.module.Module.{Module}
 use Rattle.ir_core.specs.Tokens.{text_start, lexemes, tokens_from}
 use Rattle.ir_core.specs.Text.{Text}
 use Rattle.ir_core.specs.Formed.{Formed}
-use Rattle.text_laws.specs.Parts.{IsMadeOfParts}
+use Rattle.text_laws.specs.Parts.{FormedParts}
 use Rattle.text_laws.proofs.Rows.{bare_of, bare_tokens}
 use Rattle.text_laws.proofs.Modules.{module_back, whole_text}
 
-pub formed_of_parts : (m : Module) → IsMadeOfParts m → Formed m
+pub formed_of_parts : (m : Module) → FormedParts m → Formed m
 formed_of_parts m h =
     let b = module_back m h in
     let r = (whole_text m b).at text_start refl refl in

@@ -6,7 +6,7 @@ use Rattle.ir_core.specs.declared.module.Function.{Function}
 use Rattle.ir_core.specs.declared.module.Block.{Block}
 use Rattle.ir_core.specs.Instructions.{last}
 use Rattle.text_laws.specs.Spelling.{IsSpelled}
-use Rattle.text_laws.specs.Parts.{IsPlain}
+use Rattle.text_laws.specs.Parts.{FormedInst}
 
 abbrev pub block_edited : (Inst → Inst) → Block → Block
 block_edited edit b = record b { insts = map edit b.insts }
@@ -19,5 +19,5 @@ module_edited edit m = record m { functions = map (function_edited edit) m.funct
 
 -- the new instruction may stand where the old one stood
 pub record KeepsInsts (edit : Inst → Inst) : Type 0 where
-  pub plain : (i : Inst) → IsPlain i → IsPlain (edit i)
+  pub plain : (i : Inst) → FormedInst i → FormedInst (edit i)
   pub last : (i : Inst) → IsSpelled last i → IsSpelled last (edit i)

@@ -15,7 +15,7 @@ use Rattle.ir_core.specs.Text.{inst_text, block_text}
 use Rattle.ir_core.specs.Lines.{inst_unlined, block_unlined}
 use Rattle.ir_core.proofs.Runs.{if_true, every_more}
 use Rattle.text_laws.specs.Spelling.{AreBytes, IsSpelled}
-use Rattle.text_laws.specs.Parts.{IsPlain, IsBlock}
+use Rattle.text_laws.specs.Parts.{FormedInst, FormedBlock}
 use Rattle.text_laws.proofs.Rows.{Bare}
 use Rattle.text_laws.proofs.Joined.{Inner, inner_then}
 use Rattle.text_laws.proofs.Spelled.{Spelled, part, no_tokens, spelled_done, spelled_then, spelled_as, token_then, shows_line}
@@ -57,24 +57,24 @@ inner_like show S f (x ∷ xs) h =
 
 -- ---- the parts of a block
 
-kept_by : (x : Inst) (xs : List Inst) (b : Bool) → is_kept x ≡ b → IsSpelled plain x → AllByRecursion IsPlain (filter is_kept xs) → AllByRecursion IsPlain (cond b (x ∷ filter is_kept xs) (filter is_kept xs))
+kept_by : (x : Inst) (xs : List Inst) (b : Bool) → is_kept x ≡ b → IsSpelled plain x → AllByRecursion FormedInst (filter is_kept xs) → AllByRecursion FormedInst (cond b (x ∷ filter is_kept xs) (filter is_kept xs))
 kept_by x xs true e g h = (record { kept = e; spelled = g }, h)
 kept_by x xs false e g h = h
 
-filter_plain : (xs : List Inst) → AllGood plain xs → AllByRecursion IsPlain (filter is_kept xs)
+filter_plain : (xs : List Inst) → AllGood plain xs → AllByRecursion FormedInst (filter is_kept xs)
 filter_plain [] g = tt
 filter_plain (x ∷ xs) g = kept_by x xs (is_kept x) refl g.0 (filter_plain xs g.1)
 
 -- behind its label
-body_parts : (label : List ℕ × ℕ) (b : Block) → AreBytes label.0 → IsSpelled (body_of label) b → IsBlock b
+body_parts : (label : List ℕ × ℕ) (b : Block) → AreBytes label.0 → IsSpelled (body_of label) b → FormedBlock b
 body_parts label b n g =
     let a = good_then g in
     let c = good_then a.rest in
     let is = filter is_kept a.value in
-    let ps = All-from_recursion IsPlain is (filter_plain a.value (good_many plain a.value a.front)) in
-    subst IsBlock (sym (good_done c.rest)) (record { name = n; insts = record { front = is; end = c.value; whole = refl; plain = ps; last = c.front } })
+    let ps = All-from_recursion FormedInst is (filter_plain a.value (good_many plain a.value a.front)) in
+    subst FormedBlock (sym (good_done c.rest)) (record { name = n; insts = record { front = is; end = c.value; whole = refl; plain = ps; last = c.front } })
 
-pub block_parts : (b : Block) → IsSpelled block b → IsBlock b
+pub block_parts : (b : Block) → IsSpelled block b → FormedBlock b
 block_parts b g =
     let a = good_then g in
     let t = good_one a.front in
@@ -83,7 +83,7 @@ block_parts b g =
 -- ---- instructions that are kept
 
 -- instructions that are like kept ones are kept
-like_kept : (xs ys : List Inst) → map inst_unlined xs ≡ map inst_unlined ys → AllByRecursion IsPlain xs → filter is_kept ys ≡ ys
+like_kept : (xs ys : List Inst) → map inst_unlined xs ≡ map inst_unlined ys → AllByRecursion FormedInst xs → filter is_kept ys ≡ ys
 like_kept [] [] e h = refl
 like_kept [] (y ∷ ys) e h = absurd (let f : ◌≡◌ {A = List Inst} [] (inst_unlined y ∷ map inst_unlined ys) = e in cc)
 like_kept (x ∷ xs) [] e h = absurd (let f : ◌≡◌ {A = List Inst} (inst_unlined x ∷ map inst_unlined xs) [] = e in cc)
@@ -106,16 +106,16 @@ flat_last f (y ∷ xs) x = ap (λ l. f y ++ l) (flat_last f xs x) ∙ sym (appen
 abbrev block_as : List ℕ → List Inst → Inst → ℕ → Block
 block_as name is end line = record { name = name; insts = is ++ end ∷ []; line = line }
 
-block_same : (name other : List ℕ) (is js : List Inst) (end end2 : Inst) (line line2 : ℕ) → other ≡ name → map inst_unlined is ≡ map inst_unlined js → inst_unlined end ≡ inst_unlined end2 → AllByRecursion IsPlain is → block_unlined (block_as name is end line) ≡ block_unlined (block_as other (filter is_kept js) end2 line2)
+block_same : (name other : List ℕ) (is js : List Inst) (end end2 : Inst) (line line2 : ℕ) → other ≡ name → map inst_unlined is ≡ map inst_unlined js → inst_unlined end ≡ inst_unlined end2 → AllByRecursion FormedInst is → block_unlined (block_as name is end line) ≡ block_unlined (block_as other (filter is_kept js) end2 line2)
 block_same name other is js end end2 line line2 p q r k =
     let e : map inst_unlined (is ++ end ∷ []) ≡ map inst_unlined (filter is_kept js ++ end2 ∷ []) =
     map_last inst_unlined is end ∙ ap (λ l. l ++ inst_unlined end ∷ []) (q ∙ ap (map inst_unlined) (sym (like_kept is js q k))) ∙ ap (λ x. map inst_unlined (filter is_kept js) ++ x ∷ []) r ∙ sym (map_last inst_unlined (filter is_kept js) end2) in
     λ i. record { name = sym p i; insts = e i; line = 0 }
 
 -- a name of bytes, and instructions that are spelled
-block_by : (name : List ℕ) (is : List Inst) (end : Inst) (line : ℕ) → AreBytes name → AllByRecursion IsPlain is → IsSpelled last end → Like Inner block_text block block_unlined (block_as name is end line)
+block_by : (name : List ℕ) (is : List Inst) (end : Inst) (line : ℕ) → AreBytes name → AllByRecursion FormedInst is → IsSpelled last end → Like Inner block_text block block_unlined (block_as name is end line)
 block_by name is end line b k h =
-    let s = inner_like inst_text plain inst_unlined is (all_like Inner inst_text plain inst_unlined IsPlain (λ i p. plain_back i p.spelled) is k) in
+    let s = inner_like inst_text plain inst_unlined is (all_like Inner inst_text plain inst_unlined FormedInst (λ i p. plain_back i p.spelled) is k) in
     let t = last_back end h in
     let Q : Block → Type 0 = λ n. block_unlined (block_as name is end line) ≡ block_unlined n in
     record {
@@ -127,10 +127,10 @@ block_by name is end line b k h =
           spelled_done (block_as label.0 (filter is_kept js) end2 label.1) Q (block_same name label.0 is js end end2 line label.1 p q r k)))));
     }
 
-pub block_back : (b : Block) → IsBlock b → Like Inner block_text block block_unlined b
+pub block_back : (b : Block) → FormedBlock b → Like Inner block_text block block_unlined b
 block_back b p =
     let q = p.insts in
-    subst (λ is. Like Inner block_text block block_unlined (record b { insts = is })) (sym q.whole) (block_by b.name q.front q.end b.line p.name (recursion_from_All IsPlain q.front q.plain) q.last)
+    subst (λ is. Like Inner block_text block block_unlined (record b { insts = is })) (sym q.whole) (block_by b.name q.front q.end b.line p.name (recursion_from_All FormedInst q.front q.plain) q.last)
 
 -- ---- a first block without a label
 
@@ -151,5 +151,5 @@ pub decimal_bytes : (n : ℕ) → AreBytes (decimal n)
 unfolding digits
 decimal_bytes n = digits_bytes 64 n [] refl
 
-pub unlabelled_parts : (n line : ℕ) (b : Block) → IsSpelled (body_of (decimal n, line)) b → IsBlock b
+pub unlabelled_parts : (n line : ℕ) (b : Block) → IsSpelled (body_of (decimal n, line)) b → FormedBlock b
 unlabelled_parts n line b g = body_parts (decimal n, line) b (decimal_bytes n) g

@@ -14,7 +14,7 @@ use Rattle.ir_core.specs.Language.{next_number, name_or, Unnumbered, params_behi
 use Rattle.ir_core.specs.Text.{type_text, comma_list, param_text, param_type_text, block_text, function_text}
 use Rattle.ir_core.specs.Lines.{block_unlined, function_unlined}
 use Rattle.text_laws.specs.Spelling.{IsSpelled}
-use Rattle.text_laws.specs.Parts.{IsBlock, IsParam, unnamed, IsFunction}
+use Rattle.text_laws.specs.Parts.{FormedBlock, FormedParam, unnamed, FormedFunction}
 use Rattle.text_laws.proofs.Rows.{Bare, bare, Lexed, Outer}
 use Rattle.text_laws.proofs.Lexed.{space_lexed, line_lexed, open_lexed, close_lexed, outer_line, outer_word, no_passive_d}
 use Rattle.text_laws.proofs.Joined.{Gives, Inner, OnLines, inner_then}
@@ -85,7 +85,7 @@ FunctionLike f S = Back OnLines (function_text f) S (λ n. function_unlined f �
 three_parts : (a b c d : List Bare) → (a ++ (b ++ c)) ++ d ≡ a ++ (b ++ (c ++ d))
 three_parts a b c d = simp append_assoc
 
-define_by : (line : ℕ) (h : Heading) (ps : List Param) (gs : List (List ℕ)) (b : Block) (bs : List Block) → HeadingParts h → AllByRecursion IsParam ps → IsSpelled groups gs → BodyBack (b ∷ bs) → FunctionLike (function_item line h ps gs (b ∷ bs)) definition
+define_by : (line : ℕ) (h : Heading) (ps : List Param) (gs : List (List ℕ)) (b : Block) (bs : List Block) → HeadingParts h → AllByRecursion FormedParam ps → IsSpelled groups gs → BodyBack (b ∷ bs) → FunctionLike (function_item line h ps gs (b ∷ bs)) definition
 define_by line h ps gs b bs gh gp gg body =
     let x = heading_back h gh in
     let y = params_says ps gp in
@@ -105,16 +105,16 @@ define_by line h ps gs b bs gh gp gg body =
           (λ i. record { name = h.name; words = h.words; ret = h.result; params = sym (params_same [] ps) i; groups = gs; blocks = q i; line = 0 }))))))));
     }
 
-first_parts : (n : List (List ℕ)) (b : Block) → IsSpelled (first_block (next_number n)) b → IsBlock b
+first_parts : (n : List (List ℕ)) (b : Block) → IsSpelled (first_block (next_number n)) b → FormedBlock b
 first_parts n b g = by (good_either block (unlabelled (next_number n)) g)
   where
-    by : IsSpelled block b ⊎ IsSpelled (unlabelled (next_number n)) b → IsBlock b
+    by : IsSpelled block b ⊎ IsSpelled (unlabelled (next_number n)) b → FormedBlock b
     by (inl h) = block_parts b h
     by (inr h) = unlabelled_parts _ h.is.0 b (record { tokens = h.tokens; fine = h.fine; is = h.is.1 })
 
 -- at least one block
 record BlocksParts (bs : List Block) : Type 0 where
-  each : AllByRecursion IsBlock bs
+  each : AllByRecursion FormedBlock bs
   some : bs ≡ [] → ⊥
 
 blocks_parts : (n : List (List ℕ)) (bs : List Block) → IsSpelled (blocks (next_number n)) bs → BlocksParts bs
@@ -123,7 +123,7 @@ blocks_parts n bs g =
     let b = good_then a.rest in
     subst BlocksParts (sym (good_done (good_then b.rest).rest)) (record { each = (first_parts n a.value a.front, each_as block_parts b.value (good_many block b.value b.front)); some = λ e. cc })
 
-pub definition_parts : (f : Function) → IsSpelled definition f → IsFunction f
+pub definition_parts : (f : Function) → IsSpelled definition f → FormedFunction f
 definition_parts f g =
     let a = good_then g in
     let b = good_then a.rest in
@@ -133,19 +133,19 @@ definition_parts f g =
     let h = heading_parts b.value b.front in
     let ps = params_behind [] c.value in
     let s = blocks_parts (map param_name ps) e.value e.front in
-    subst IsFunction (sym (good_done e.rest)) (record {
+    subst FormedFunction (sym (good_done e.rest)) (record {
       words = h.words;
       result = h.result;
       name = h.name;
-      params = All-from_recursion IsParam ps (params_parts [] c.value (each_as param_parts c.value (good_list 41 param c.value c.front)));
+      params = All-from_recursion FormedParam ps (params_parts [] c.value (each_as param_parts c.value (good_list 41 param c.value c.front)));
       groups = d.front;
-      blocks = All-from_recursion IsBlock e.value s.each;
+      blocks = All-from_recursion FormedBlock e.value s.each;
       numbered = λ n. absurd (s.some n);
     })
 
 -- ---- declarations
 
-param_type_says : (p : Param) → IsParam p → Says (param_type_text p) param_type (unnamed p)
+param_type_says : (p : Param) → FormedParam p → Says (param_type_text p) param_type (unnamed p)
 param_type_says p g =
     let t = type_says p.ty g.ty in
     let v = unnamed p in
@@ -161,7 +161,7 @@ param_type_says p g =
 abbrev unnamed_text : Unnumbered → List ℕ
 unnamed_text u = type_text u.0
 
-types_say : (ps : List Param) → AllByRecursion IsParam ps → AllSay unnamed_text param_type (map unnamed ps)
+types_say : (ps : List Param) → AllByRecursion FormedParam ps → AllSay unnamed_text param_type (map unnamed ps)
 types_say [] g = tt
 types_say (p ∷ ps) g = (param_type_says p g.0, types_say ps g.1)
 
@@ -177,7 +177,7 @@ declare_lines h lh x = record { before = λ rest ms o. simp append_assoc (whole 
         let line = space_lexed 0 (h ++ 10 ∷ rest) (lh ++ ms) (x.before 0 (10 ∷ rest) ms refl (outer_line rest ms o)) in
         outer_word (codes "declare") (32 ∷ (h ++ 10 ∷ rest)) (lh ++ ms) refl refl (no_passive_d (codes "eclare" ++ 32 ∷ (h ++ 10 ∷ rest))) line
 
-declare_by : (line : ℕ) (h : Heading) (ps : List Param) (gs : List (List ℕ)) → HeadingParts h → AllByRecursion IsParam ps → params_behind [] (map unnamed ps) ≡ ps → IsSpelled groups gs → FunctionLike (function_item line h ps gs []) declaration
+declare_by : (line : ℕ) (h : Heading) (ps : List Param) (gs : List (List ℕ)) → HeadingParts h → AllByRecursion FormedParam ps → params_behind [] (map unnamed ps) ≡ ps → IsSpelled groups gs → FunctionLike (function_item line h ps gs []) declaration
 declare_by line h ps gs gh gp numbered gg =
     let x = heading_back h gh in
     let us = map unnamed ps in
@@ -214,7 +214,7 @@ unnamed_same names (u ∷ us) h =
     let n = h.0.none in
     λ i. (u.0, sym n i) ∷ r i
 
-pub declaration_parts : (f : Function) → IsSpelled declaration f → IsFunction f
+pub declaration_parts : (f : Function) → IsSpelled declaration f → FormedFunction f
 declaration_parts f g =
     let a = good_then g in
     let b = good_then a.rest in
@@ -222,27 +222,27 @@ declaration_parts f g =
     let d = good_then c.rest in
     let h = heading_parts b.value b.front in
     let us = each_as param_type_parts c.value (good_list 41 param_type c.value c.front) in
-    subst IsFunction (sym (good_done d.rest)) (record {
+    subst FormedFunction (sym (good_done d.rest)) (record {
       words = h.words;
       result = h.result;
       name = h.name;
-      params = All-from_recursion IsParam (params_behind [] c.value) (params_parts [] c.value (each_as (λ u p. p.parts) c.value us));
+      params = All-from_recursion FormedParam (params_behind [] c.value) (params_parts [] c.value (each_as (λ u p. p.parts) c.value us));
       groups = d.front;
-      blocks = All-nil IsBlock;
+      blocks = All-nil FormedBlock;
       numbered = λ n. ap (params_behind []) (unnamed_same [] c.value us);
     })
 
 -- ---- functions
 
-heading_of : (f : Function) → IsFunction f → HeadingParts (record { words = f.words; result = f.ret; name = f.name })
+heading_of : (f : Function) → FormedFunction f → HeadingParts (record { words = f.words; result = f.ret; name = f.name })
 heading_of f p = record { words = p.words; result = p.result; name = p.name }
 
-pub function_back : (f : Function) → IsFunction f → FunctionLike f definition ⊎ FunctionLike f declaration
+pub function_back : (f : Function) → FormedFunction f → FunctionLike f definition ⊎ FunctionLike f declaration
 function_back f p = by f.blocks refl
   where
     by : (bs : List Block) → f.blocks ≡ bs → FunctionLike f definition ⊎ FunctionLike f declaration
-    by [] e = inr (subst (λ bs. FunctionLike (record f { blocks = bs }) declaration) (sym e) (declare_by f.line _ f.params f.groups (heading_of f p) (recursion_from_All IsParam f.params p.params) (p.numbered e) p.groups))
+    by [] e = inr (subst (λ bs. FunctionLike (record f { blocks = bs }) declaration) (sym e) (declare_by f.line _ f.params f.groups (heading_of f p) (recursion_from_All FormedParam f.params p.params) (p.numbered e) p.groups))
     by (b ∷ bs) e =
-        let h = recursion_from_All IsBlock (b ∷ bs) (subst (All IsBlock) e p.blocks) in
-        let body = body_by b bs (block_back b h.0) (all_like Inner block_text block block_unlined IsBlock block_back bs h.1) in
-        inl (subst (λ bs. FunctionLike (record f { blocks = bs }) definition) (sym e) (define_by f.line _ f.params f.groups b bs (heading_of f p) (recursion_from_All IsParam f.params p.params) p.groups body))
+        let h = recursion_from_All FormedBlock (b ∷ bs) (subst (All FormedBlock) e p.blocks) in
+        let body = body_by b bs (block_back b h.0) (all_like Inner block_text block block_unlined FormedBlock block_back bs h.1) in
+        inl (subst (λ bs. FunctionLike (record f { blocks = bs }) definition) (sym e) (define_by f.line _ f.params f.groups b bs (heading_of f p) (recursion_from_All FormedParam f.params p.params) p.groups body))

@@ -10,7 +10,7 @@ use Rattle.ir_core.specs.Language.{next_number, name_or, Unnumbered, params_behi
 use Rattle.ir_core.specs.Text.{is_digits}
 use Rattle.ir_core.specs.Text.{type_text, local_text, global_name_text, spaced_words, comma_list, all_led, param_text}
 use Rattle.text_laws.specs.Spelling.{AreBytes, IsSpelled}
-use Rattle.text_laws.specs.Parts.{IsParam}
+use Rattle.text_laws.specs.Parts.{FormedParam}
 use Rattle.text_laws.proofs.Rows.{Bare, bare}
 use Rattle.text_laws.proofs.Joined.{Gives, Closes, gives_closes, closes_gives, closes_then, closes_space, closes_mark, gives_then}
 use Rattle.text_laws.proofs.Spelled.{spelled_done, spelled_same, spelled_as, token_then, shows_mark}
@@ -86,7 +86,7 @@ param_parts u g =
     let b = good_then (good_then a.rest).rest in
     subst UnnumberedParts (sym (good_done b.rest)) (record { ty = a.front; name = name_bytes b.value (good_maybe None some_local b.front) })
 
-pub params_parts : (names : List (List ℕ)) (us : List Unnumbered) → AllByRecursion UnnumberedParts us → AllByRecursion IsParam (params_behind names us)
+pub params_parts : (names : List (List ℕ)) (us : List Unnumbered) → AllByRecursion UnnumberedParts us → AllByRecursion FormedParam (params_behind names us)
 params_parts names [] g = tt
 params_parts names (u ∷ us) g = (record { name = g.0.name (next_number names) (number_bytes names); ty = g.0.ty }, params_parts (names ++ name_or u.1 (next_number names) ∷ []) us g.1)
 
@@ -105,7 +105,7 @@ texts_same : (ps : List Param) → map unnumbered_text (map present ps) ≡ map 
 texts_same [] = refl
 texts_same (p ∷ ps) = ap (λ l. param_text p ∷ l) (texts_same ps)
 
-param_says : (p : Param) → IsParam p → Says (unnumbered_text (present p)) param (present p)
+param_says : (p : Param) → FormedParam p → Says (unnumbered_text (present p)) param (present p)
 param_says p g =
     let t = type_says p.ty g.ty in
     let Q : Unnumbered → Type 0 = λ u. u ≡ present p in
@@ -120,9 +120,9 @@ param_says p g =
           (spelled_as (append-nil ls) (spelled_same {ls = ls} {ms = []} {v = Some p.name} {Q = Q} n.spelled (spelled_done (present p) Q refl)))));
     }
 
-params_say : (ps : List Param) → AllByRecursion IsParam ps → AllSay unnumbered_text param (map present ps)
+params_say : (ps : List Param) → AllByRecursion FormedParam ps → AllSay unnumbered_text param (map present ps)
 params_say [] g = tt
 params_say (p ∷ ps) g = (param_says p g.0, params_say ps g.1)
 
-pub params_says : (ps : List Param) → AllByRecursion IsParam ps → Says (comma_list (map param_text ps) ++ codes ")") (list_to 41 param) (map present ps)
+pub params_says : (ps : List Param) → AllByRecursion FormedParam ps → Says (comma_list (map param_text ps) ++ codes ")") (list_to 41 param) (map present ps)
 params_says ps g = subst (λ l. Says (comma_list l ++ codes ")") (list_to 41 param) (map present ps)) (texts_same ps) (says_closed unnumbered_text param (map present ps) (params_say ps g))

@@ -17,7 +17,7 @@ use Rattle.ir_core.specs.Language.{IsPlainInit, InitForm, PlainInit, SquareInit,
 use Rattle.ir_core.specs.Text.{name_text, quoted, type_text, number_text, local_text, global_name_text, init_text, initial_text, spaced_words, constness_text, align_text, global_text, type_def_text}
 use Rattle.ir_core.specs.Lines.{type_unlined, global_unlined}
 use Rattle.text_laws.specs.Spelling.{AreBytes, IsSpelled}
-use Rattle.text_laws.specs.Parts.{IsTypeDef, IsGlobal}
+use Rattle.text_laws.specs.Parts.{FormedType, FormedGlobal}
 use Rattle.text_laws.proofs.Rows.{Bare, bare, Outer, NoBrace}
 use Rattle.text_laws.proofs.Endings.{Ends}
 use Rattle.text_laws.proofs.Lexed.{outer_line}
@@ -109,7 +109,7 @@ named_lines kind front b lb n a l g h z x = record {
 abbrev pub TypeLike : TypeDef → Type 0
 TypeLike d = Back OnLines (type_def_text d) type_def (λ n. type_unlined d ≡ type_unlined n)
 
-pub type_back : (d : TypeDef) → IsTypeDef d → TypeLike d
+pub type_back : (d : TypeDef) → FormedType d → TypeLike d
 type_back d p =
     let x = d.name in
     let body = d.body in
@@ -128,12 +128,12 @@ type_back d p =
     type_row : (a b : List ℕ) → a ++ ((32 ∷ (codes "= type " ++ b)) ++ codes "\n") ≡ a ++ codes " = type " ++ b ++ codes "\n"
     type_row a b = simp append_assoc
 
-pub type_parts : (d : TypeDef) → IsSpelled type_def d → IsTypeDef d
+pub type_parts : (d : TypeDef) → IsSpelled type_def d → FormedType d
 type_parts d g =
     let a = good_then g in
     let b = good_then (good_then (good_then a.rest).rest).rest in
     let t = good_one a.front in
-    subst IsTypeDef (sym (good_done b.rest)) (record { name = local_bytes (record { token = t.token; fine = t.fine; is = t.is.0 }); body = b.front })
+    subst FormedType (sym (good_done b.rest)) (record { name = local_bytes (record { token = t.token; fine = t.fine; is = t.is.0 }); body = b.front })
 
 -- ---- globals
 
@@ -151,7 +151,7 @@ constant_spelled : (constant : Bool) → IsSpelled (one (IsWordIn constness)) co
 constant_spelled false = one_spelled (record { token = record { kind = Word; bytes = codes "global"; line = 0 }; fine = record { bytes = refl; shape = tt }; is = (refl, inl (refl, refl)) })
 constant_spelled true = one_spelled (record { token = record { kind = Word; bytes = codes "constant"; line = 0 }; fine = record { bytes = refl; shape = tt }; is = (refl, inr (inl (refl, refl))) })
 
-pub global_back : (d : GlobalItem) → IsGlobal d → GlobalLike d
+pub global_back : (d : GlobalItem) → FormedGlobal d → GlobalLike d
 global_back d p =
     let x = d.name in
     let words = d.words in
@@ -160,7 +160,7 @@ global_back d p =
     let init = d.init in
     let align = d.align in
     let n = p.name in
-    let m = p.other in
+    let m = p.not_llvm in
     let w = words_back words p.words in
     let c = table_says constness_text constness (refl, refl, (refl, refl, tt)) constant (constant_spelled constant) in
     let t = type_says ty p.ty in
@@ -187,7 +187,7 @@ global_back d p =
           (spelled_done (record { name = y.0; words = words; constant = constant; ty = ty; init = init; align = align; line = y.1 }) Q (λ k. record { name = sym p k; words = words; constant = constant; ty = ty; init = init; align = align; line = 0 })))))))))));
     }
 
-pub global_parts : (d : GlobalItem) → IsSpelled global d → IsGlobal d
+pub global_parts : (d : GlobalItem) → IsSpelled global d → FormedGlobal d
 global_parts d g =
     let a = good_then g in
     let w = good_then (good_then a.rest).rest in
@@ -198,9 +198,9 @@ global_parts d g =
     let r = good_then s.rest in
     let l = good_then r.rest in
     let name = good_one a.front in
-    subst IsGlobal (sym (good_done l.rest)) (record {
+    subst FormedGlobal (sym (good_done l.rest)) (record {
       name = global_bytes (record { token = name.token; fine = name.fine; is = name.is.0.0 });
-      other = name.is.0.1;
+      not_llvm = name.is.0.1;
       words = w.front;
       ty = t.front;
       init = i.front;

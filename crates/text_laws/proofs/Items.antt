@@ -9,7 +9,7 @@ use Rattle.ir_core.specs.Spell.{one, many}
 use Rattle.ir_core.specs.Language.{definition, declaration, Item, TypeItem, VariableItem, FunctionItem, LineItem, IsPassiveLine, item, is_prelude_line}
 use Rattle.ir_core.specs.Text.{line_text, type_def_text, global_text, function_text}
 use Rattle.ir_core.specs.Lines.{type_unlined, global_unlined, function_unlined}
-use Rattle.text_laws.specs.Parts.{IsFunction, IsTypeDef, IsGlobal, IsLine}
+use Rattle.text_laws.specs.Parts.{FormedFunction, FormedType, FormedGlobal, FormedLine}
 use Rattle.text_laws.proofs.Rows.{Bare, bare, bare_of, Outer}
 use Rattle.text_laws.proofs.Joined.{OnLines, regroup_outer}
 use Rattle.text_laws.proofs.Spelled.{Shows, no_tokens, spelled_one}
@@ -78,17 +78,17 @@ line_item line n h = record {
 -- ---- what an item is by its parts
 
 abbrev pub IsItem : Item → Type 0
-IsItem (TypeItem d) = IsTypeDef d
-IsItem (VariableItem g) = IsGlobal g
-IsItem (FunctionItem f) = IsFunction f
-IsItem (LineItem line) = IsLine (is_prelude_line line) line
+IsItem (TypeItem d) = FormedType d
+IsItem (VariableItem g) = FormedGlobal g
+IsItem (FunctionItem f) = FormedFunction f
+IsItem (LineItem line) = FormedLine (is_prelude_line line) line
 
 pub item_parts : (x : Item) → IsSpelled item x → IsItem x
 item_parts (TypeItem d) g = type_parts d (record { tokens = g.tokens; fine = g.fine; is = g.is })
 item_parts (VariableItem d) g = global_parts d (record { tokens = g.tokens; fine = g.fine; is = g.is })
 item_parts (FunctionItem f) g = by (good_either definition declaration (record { tokens = g.tokens; fine = g.fine; is = g.is }))
   where
-    by : IsSpelled definition f ⊎ IsSpelled declaration f → IsFunction f
+    by : IsSpelled definition f ⊎ IsSpelled declaration f → FormedFunction f
     by (inl h) = definition_parts f h
     by (inr h) = declaration_parts f h
 item_parts (LineItem line) g =

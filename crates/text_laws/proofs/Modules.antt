@@ -12,7 +12,7 @@ use Rattle.ir_core.specs.Lines.{type_unlined, global_unlined, function_unlined, 
 use Rattle.ir_core.specs.Formed.{Formed, ReadsBack}
 use Rattle.ir_core.proofs.Runs.{if_true, if_false}
 use Rattle.text_laws.specs.Spelling.{IsSpelled}
-use Rattle.text_laws.specs.Parts.{IsFunction, IsTypeDef, IsGlobal, IsLine, IsMadeOfParts}
+use Rattle.text_laws.specs.Parts.{FormedFunction, FormedType, FormedGlobal, FormedLine, FormedParts}
 use Rattle.text_laws.proofs.Rows.{Outer, outer_end, lexed_whole}
 use Rattle.text_laws.proofs.Joined.{OnLines}
 use Rattle.text_laws.proofs.Spelled.{spelled_done, spelled_then, spelled_as}
@@ -100,24 +100,24 @@ abbrev is_tail_line : List ℕ → Bool
 is_tail_line line = not (is_prelude_line line)
 
 -- lines of the prelude and of the tail are told apart
-prelude_kept : (ls ms : List (List ℕ)) → AllByRecursion (IsLine true) ls → AllByRecursion (IsLine false) ms → filter is_prelude_line (ls ++ ms) ≡ ls
+prelude_kept : (ls ms : List (List ℕ)) → AllByRecursion (FormedLine true) ls → AllByRecursion (FormedLine false) ms → filter is_prelude_line (ls ++ ms) ≡ ls
 prelude_kept ls ms h k =
     filter_append is_prelude_line ls ms
     ∙ ap (λ l. l ++ filter is_prelude_line ms) (filter_all is_prelude_line ls (each_as (λ x p. p.place) ls h))
     ∙ ap (λ l. ls ++ l) (filter_none is_prelude_line ms (each_as (λ x p. p.place) ms k))
     ∙ append-nil ls
 
-tail_kept : (ls ms : List (List ℕ)) → AllByRecursion (IsLine true) ls → AllByRecursion (IsLine false) ms → filter is_tail_line (ls ++ ms) ≡ ms
+tail_kept : (ls ms : List (List ℕ)) → AllByRecursion (FormedLine true) ls → AllByRecursion (FormedLine false) ms → filter is_tail_line (ls ++ ms) ≡ ms
 tail_kept ls ms h k =
     filter_append is_tail_line ls ms
     ∙ ap (λ l. l ++ filter is_tail_line ms) (filter_none is_tail_line ls (each_as (λ x p. ap not p.place) ls h))
     ∙ filter_all is_tail_line ms (each_as (λ x p. ap not p.place) ms k)
 
 -- the items of a module in their order make up the module
-ordered : (m : Module) → IsMadeOfParts m → module_of (in_order m) ≡ m
+ordered : (m : Module) → FormedParts m → module_of (in_order m) ≡ m
 ordered m h =
-    let p = recursion_from_All (IsLine true) m.prelude h.prelude in
-    let t = recursion_from_All (IsLine false) m.tail h.tail in
+    let p = recursion_from_All (FormedLine true) m.prelude h.prelude in
+    let t = recursion_from_All (FormedLine false) m.tail h.tail in
     let before = ap (filter is_prelude_line) (order_lines m) ∙ prelude_kept m.prelude m.tail p t in
     let behind = ap (filter is_tail_line) (order_lines m) ∙ tail_kept m.prelude m.tail p t in
     λ i. record { prelude = before i; types = order_types m i; globals = order_globals m i; functions = order_functions m i; tail = behind i }
@@ -169,31 +169,31 @@ rows_parts : {X : Type 0} (P : X → Type 0) (f : Item → List X) → ((x : Ite
 rows_parts P f law [] h = tt
 rows_parts P f law (x ∷ xs) h = each_append P (f x) (flat_map f xs) (law x h.0) (rows_parts P f law xs h.1)
 
-of_types : (x : Item) → IsItem x → AllByRecursion IsTypeDef (item_types x)
+of_types : (x : Item) → IsItem x → AllByRecursion FormedType (item_types x)
 of_types (TypeItem d) p = (p, tt)
 of_types _ p = tt
 
-of_globals : (x : Item) → IsItem x → AllByRecursion IsGlobal (item_globals x)
+of_globals : (x : Item) → IsItem x → AllByRecursion FormedGlobal (item_globals x)
 of_globals (VariableItem d) p = (p, tt)
 of_globals _ p = tt
 
-of_functions : (x : Item) → IsItem x → AllByRecursion IsFunction (item_functions x)
+of_functions : (x : Item) → IsItem x → AllByRecursion FormedFunction (item_functions x)
 of_functions (FunctionItem d) p = (p, tt)
 of_functions _ p = tt
 
 abbrev IsSomeLine : List ℕ → Type 0
-IsSomeLine line = IsLine (is_prelude_line line) line
+IsSomeLine line = FormedLine (is_prelude_line line) line
 
 of_lines : (x : Item) → IsItem x → AllByRecursion IsSomeLine (item_lines x)
 of_lines (LineItem line) p = (p, tt)
 of_lines _ p = tt
 
 -- lines that pass a test which tells where they stand
-lines_filtered : (before : Bool) (p : List ℕ → Bool) → ((line : List ℕ) → p line ≡ true → is_prelude_line line ≡ before) → (ls : List (List ℕ)) → AllByRecursion IsSomeLine ls → AllByRecursion (IsLine before) (filter p ls)
+lines_filtered : (before : Bool) (p : List ℕ → Bool) → ((line : List ℕ) → p line ≡ true → is_prelude_line line ≡ before) → (ls : List (List ℕ)) → AllByRecursion IsSomeLine ls → AllByRecursion (FormedLine before) (filter p ls)
 lines_filtered before p law [] h = tt
 lines_filtered before p law (l ∷ ls) h = by (p l) refl (lines_filtered before p law ls h.1)
   where
-    by : (b : Bool) → p l ≡ b → AllByRecursion (IsLine before) (filter p ls) → AllByRecursion (IsLine before) (cond b (l ∷ filter p ls) (filter p ls))
+    by : (b : Bool) → p l ≡ b → AllByRecursion (FormedLine before) (filter p ls) → AllByRecursion (FormedLine before) (cond b (l ∷ filter p ls) (filter p ls))
     by true e r = (record { bytes = h.0.bytes; passive = h.0.passive; place = law l e }, r)
     by false e r = r
 
@@ -201,18 +201,18 @@ not_true : (b : Bool) → not b ≡ true → b ≡ false
 not_true true e = sym e
 not_true false e = refl
 
-pub module_parts : (m : Module) → IsSpelled module_to_end m → IsMadeOfParts m
+pub module_parts : (m : Module) → IsSpelled module_to_end m → FormedParts m
 module_parts m g =
     let a = good_then g in
     let xs = a.value in
     let h = each_as item_parts xs (good_many item xs a.front) in
     let ls = rows_parts IsSomeLine item_lines of_lines xs h in
-    subst IsMadeOfParts (sym (good_done a.rest)) (record {
-      prelude = All-from_recursion (IsLine true) _ (lines_filtered true is_prelude_line (λ l e. e) (flat_map item_lines xs) ls);
-      types = All-from_recursion IsTypeDef _ (rows_parts IsTypeDef item_types of_types xs h);
-      globals = All-from_recursion IsGlobal _ (rows_parts IsGlobal item_globals of_globals xs h);
-      functions = All-from_recursion IsFunction _ (rows_parts IsFunction item_functions of_functions xs h);
-      tail = All-from_recursion (IsLine false) _ (lines_filtered false is_tail_line (λ l e. not_true (is_prelude_line l) e) (flat_map item_lines xs) ls);
+    subst FormedParts (sym (good_done a.rest)) (record {
+      prelude = All-from_recursion (FormedLine true) _ (lines_filtered true is_prelude_line (λ l e. e) (flat_map item_lines xs) ls);
+      types = All-from_recursion FormedType _ (rows_parts FormedType item_types of_types xs h);
+      globals = All-from_recursion FormedGlobal _ (rows_parts FormedGlobal item_globals of_globals xs h);
+      functions = All-from_recursion FormedFunction _ (rows_parts FormedFunction item_functions of_functions xs h);
+      tail = All-from_recursion (FormedLine false) _ (lines_filtered false is_tail_line (λ l e. not_true (is_prelude_line l) e) (flat_map item_lines xs) ls);
     })
 
 -- ---- what is made of parts is spelled by its canonical text
@@ -221,18 +221,18 @@ all_items : {X : Type 0} (P : X → Type 0) (g : X → Item) → ((x : X) → P 
 all_items P g law xs h = each_mapped IsItem g law xs (recursion_from_All P xs h)
 
 -- a line is of the prelude or of the tail by itself
-line_item_is : (before : Bool) (line : List ℕ) → IsLine before line → IsItem (LineItem line)
+line_item_is : (before : Bool) (line : List ℕ) → FormedLine before line → IsItem (LineItem line)
 line_item_is before line p = record { bytes = p.bytes; passive = p.passive; place = refl }
 
-order_items : (m : Module) → IsMadeOfParts m → AllByRecursion IsItem (in_order m)
+order_items : (m : Module) → FormedParts m → AllByRecursion IsItem (in_order m)
 order_items m h =
-    each_append IsItem (map LineItem m.prelude) _ (all_items (IsLine true) LineItem (line_item_is true) m.prelude h.prelude)
-    (each_append IsItem (map TypeItem m.types) _ (all_items IsTypeDef TypeItem (λ x p. p) m.types h.types)
-    (each_append IsItem (map VariableItem m.globals) _ (all_items IsGlobal VariableItem (λ x p. p) m.globals h.globals)
-    (each_append IsItem (map FunctionItem m.functions) (map LineItem m.tail) (all_items IsFunction FunctionItem (λ x p. p) m.functions h.functions)
-    (all_items (IsLine false) LineItem (line_item_is false) m.tail h.tail))))
+    each_append IsItem (map LineItem m.prelude) _ (all_items (FormedLine true) LineItem (line_item_is true) m.prelude h.prelude)
+    (each_append IsItem (map TypeItem m.types) _ (all_items FormedType TypeItem (λ x p. p) m.types h.types)
+    (each_append IsItem (map VariableItem m.globals) _ (all_items FormedGlobal VariableItem (λ x p. p) m.globals h.globals)
+    (each_append IsItem (map FunctionItem m.functions) (map LineItem m.tail) (all_items FormedFunction FunctionItem (λ x p. p) m.functions h.functions)
+    (all_items (FormedLine false) LineItem (line_item_is false) m.tail h.tail))))
 
-pub module_back : (m : Module) → IsMadeOfParts m → Back OnLines (Text m) module_to_end (SameButLines m)
+pub module_back : (m : Module) → FormedParts m → Back OnLines (Text m) module_to_end (SameButLines m)
 module_back m h =
     let xs = in_order m in
     let s = lines_like item_text item item_unlined xs (all_like OnLines item_text item item_unlined IsItem item_back xs (order_items m h)) in
@@ -257,7 +257,7 @@ read_back m b l =
 
 -- ---- the laws
 
-pub parts_of_formed : (m : Module) → Formed m → IsMadeOfParts m
+pub parts_of_formed : (m : Module) → Formed m → FormedParts m
 parts_of_formed m f = parts_same m f.spelled f.same (module_parts f.spelled (record { tokens = lexemes f.text (tokens_from f.text 0 f.pieces); fine = tokens_fine text_start f.text f.pieces f.bytes f.whole; is = f.spells }))
 
 pub canonical_text_spells : (m : Module) → Formed m → length (Text m) ≤ text_limit → ReadsBack (Text m) m

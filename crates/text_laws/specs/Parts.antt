@@ -16,25 +16,25 @@ use Rattle.text_laws.specs.Spelling.{AreBytes, IsSpelled}
 -- ---- blocks
 
 -- an instruction that ends no block, and is kept
-pub record IsPlain (i : Inst) : Type 0 where
+pub record FormedInst (i : Inst) : Type 0 where
   pub kept : is_kept i ≡ true
   pub spelled : IsSpelled plain i
 
 -- plain instructions, and one that ends the block
-pub record AreInsts (is : List Inst) : Type 0 where
+pub record FormedInsts (is : List Inst) : Type 0 where
   pub front : List Inst
   pub end : Inst
   pub whole : is ≡ front ++ end ∷ []
-  pub plain : All IsPlain front
+  pub plain : All FormedInst front
   pub last : IsSpelled last end
 
-pub record IsBlock (b : Block) : Type 0 where
+pub record FormedBlock (b : Block) : Type 0 where
   pub name : AreBytes b.name
-  pub insts : AreInsts b.insts
+  pub insts : FormedInsts b.insts
 
 -- ---- functions
 
-pub record IsParam (p : Param) : Type 0 where
+pub record FormedParam (p : Param) : Type 0 where
   pub name : AreBytes p.name
   pub ty : IsSpelled type_ p.ty
 
@@ -43,40 +43,40 @@ abbrev pub unnamed : Param → Unnumbered
 unnamed p = (p.ty, None)
 
 -- a function without blocks is a declaration, whose parameters have numbers for names
-pub record IsFunction (f : Function) : Type 0 where
+pub record FormedFunction (f : Function) : Type 0 where
   pub words : IsSpelled kept_words f.words
   pub result : IsSpelled result_type f.ret
   pub name : AreBytes f.name
-  pub params : All IsParam f.params
+  pub params : All FormedParam f.params
   pub groups : IsSpelled groups f.groups
-  pub blocks : All IsBlock f.blocks
+  pub blocks : All FormedBlock f.blocks
   pub numbered : f.blocks ≡ [] → params_behind [] (map unnamed f.params) ≡ f.params
 
 -- ---- other items
 
-pub record IsTypeDef (t : TypeDef) : Type 0 where
+pub record FormedType (t : TypeDef) : Type 0 where
   pub name : AreBytes t.name
   pub body : IsSpelled type_ t.body
 
-pub record IsGlobal (g : Global) : Type 0 where
+pub record FormedGlobal (g : Global) : Type 0 where
   pub name : AreBytes g.name
-  pub other : begins_with_llvm g.name ≡ false
+  pub not_llvm : begins_with_llvm g.name ≡ false
   pub words : IsSpelled kept_words g.words
   pub ty : IsSpelled type_ g.ty
   pub init : IsSpelled (maybe None (some_init g.ty)) g.init
   pub align : IsSpelled next_alignment g.align
 
 -- a line that is kept whole, before the other items or behind them
-pub record IsLine (before : Bool) (line : List ℕ) : Type 0 where
+pub record FormedLine (before : Bool) (line : List ℕ) : Type 0 where
   pub bytes : AreBytes line
   pub passive : IsPassive line
   pub place : is_prelude_line line ≡ before
 
 -- ---- modules
 
-pub record IsMadeOfParts (m : Module) : Type 0 where
-  pub prelude : All (IsLine true) m.prelude
-  pub types : All IsTypeDef m.types
-  pub globals : All IsGlobal m.globals
-  pub functions : All IsFunction m.functions
-  pub tail : All (IsLine false) m.tail
+pub record FormedParts (m : Module) : Type 0 where
+  pub prelude : All (FormedLine true) m.prelude
+  pub types : All FormedType m.types
+  pub globals : All FormedGlobal m.globals
+  pub functions : All FormedFunction m.functions
+  pub tail : All (FormedLine false) m.tail
