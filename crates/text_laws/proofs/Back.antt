@@ -6,12 +6,13 @@ use Rattle.ir_core.specs.Tokens.{Word, Mark, Lexeme}
 use Rattle.ir_core.specs.Spell.{done, ◌>>=◌, any, many, word, mark, AtEnd, OneMore, after_comma, list_to}
 use Rattle.ir_core.specs.Forms.{maybe, dropped}
 use Rattle.ir_core.specs.Text.{is_word, all_led, comma_list, in_spaces, parted}
+use Rattle.text_laws.specs.Spelling.{IsSpelled}
 use Rattle.text_laws.proofs.Rows.{Bare, Lexed, bare}
 use Rattle.text_laws.proofs.Endings.{Ends}
 use Rattle.text_laws.proofs.Lexed.{is_brace, open_lexed, close_lexed}
 use Rattle.text_laws.proofs.Joined.{Gives, comma, gives_none, gives_of, gives_then, closes_gives, closes_space, closes_comma, closes_mark, gives_word}
 use Rattle.text_laws.proofs.Spelled.{Spelled, part, no_tokens, spelled_done, spelled_same, spelled_as, spelled_any, token_then, shows_mark, shows_word}
-use Rattle.text_laws.proofs.Good.{Good, Parts, AllGood}
+use Rattle.text_laws.proofs.Good.{Parts, AllGood}
 
 -- the text is lexed as tokens that spell something with the property
 pub record Back {X : Type 0} (G : List ℕ → List Bare → Type 0) (text : List ℕ) (S : List Lexeme → X → Type 0) (P : X → Type 0) : Type 0 where
@@ -105,7 +106,7 @@ abbrev pub AllSay : {X : Type 0} → (X → List ℕ) → (List Lexeme → X →
 AllSay show S [] = Unit {0}
 AllSay show S (x ∷ xs) = Says (show x) S x × AllSay show S xs
 
-pub all_say : {X : Type 0} (show : X → List ℕ) (S : List Lexeme → X → Type 0) → ((x : X) → Good S x → Says (show x) S x) → (xs : List X) → AllGood S xs → AllSay show S xs
+pub all_say : {X : Type 0} (show : X → List ℕ) (S : List Lexeme → X → Type 0) → ((x : X) → IsSpelled S x → Says (show x) S x) → (xs : List X) → AllGood S xs → AllSay show S xs
 all_say show S law [] g = tt
 all_say show S law (x ∷ xs) g = (law x g.0, all_say show S law xs g.1)
 

@@ -13,7 +13,8 @@ use Rattle.ir_core.specs.Spell.{one, any, InTable}
 use Rattle.ir_core.specs.Forms.{token, attribute_form, IsOneOf}
 use Rattle.ir_core.specs.Instructions.{argument, IsCallee, conventions, trailer_form, called, tail_words, CallForm, Bare, Led, call_form, call, value, assigned}
 use Rattle.ir_core.specs.Text.{type_text, value_text, typed_text, typed_texts, tail_text, comma_list, kind_text}
-use Rattle.text_laws.proofs.Good.{Good, good_then, good_done, good_one, good_any, good_either, good_list}
+use Rattle.text_laws.specs.Spelling.{IsSpelled}
+use Rattle.text_laws.proofs.Good.{good_then, good_done, good_one, good_any, good_either, good_list}
 use Rattle.text_laws.proofs.Back.{flat, Says, Ended, says_as, says_at, says_done, says_then, says_last, says_after, empty_maybe, empty_dropped, says_space, says_mark, says_word, says_any, all_say, says_closed, says_left, says_right}
 use Rattle.text_laws.proofs.Names.{says_token, gives_local, gives_global, shows_local, shows_global, local_bytes, global_bytes, WordsAre, table_says}
 use Rattle.text_laws.proofs.Types.{type_says, type_sized, result_says}
@@ -22,7 +23,7 @@ use Rattle.text_laws.proofs.ValueKinds.{value_kind_says}
 
 -- ---- operands
 
-argument_says : (v : Typed) → Good argument v → Says (typed_text v) argument v
+argument_says : (v : Typed) → IsSpelled argument v → Says (typed_text v) argument v
 argument_says v g =
     let p = good_then g in
     let a = good_then p.rest in
@@ -33,7 +34,7 @@ argument_says v g =
     (says_after p (empty_dropped (any attribute_form)) (says_then a (type_says a.value a.front) (λ rest e. refl) (says_space (says_after q (empty_dropped (any attribute_form))
     (says_last (λ x. record { ty = a.value; value = x }) (value_says a.value b.value (type_sized a.value a.front) b.front)))))))
 
-callee_says : (ty : Ty) (v : Value) → Good (one IsCallee) v → Says (value_text ty v) (one IsCallee) v
+callee_says : (ty : Ty) (v : Value) → IsSpelled (one IsCallee) v → Says (value_text ty v) (one IsCallee) v
 callee_says ty (GlobalValue x) g =
     let t = good_one g in
     let b = global_bytes (record { token = t.token; fine = t.fine; is = t.is }) in
@@ -54,7 +55,7 @@ pub record Called (t : TailWord) (k : Kind) : Type 0 where
   pub ended : Ended body
   pub says : Says body (called t) k
 
-pub called_says : (t : TailWord) (k : Kind) → Good (called t) k → Called t k
+pub called_says : (t : TailWord) (k : Kind) → IsSpelled (called t) k → Called t k
 called_says t k g =
     let p = good_then g in
     let q = good_then p.rest in
@@ -96,7 +97,7 @@ tail_spaced w t (inr (inr h)) = absurd h
 pub tail_called : (w : List ℕ) (t : TailWord) (k : Kind) (c : Called t k) → InTable tail_words w t → tail_word_text t ++ (codes " " ++ (codes "call" ++ c.body)) ≡ kind_text k
 tail_called w t k c h = sym (c.text ∙ ap (λ x. x ++ (codes "call" ++ c.body)) (tail_spaced w t h) ∙ append_assoc (tail_word_text t) (codes " ") (codes "call" ++ c.body))
 
-form_says : (form : CallForm) (k : Kind) → Good (call_form form) k → Says (kind_text k) (call_form form) k
+form_says : (form : CallForm) (k : Kind) → IsSpelled (call_form form) k → Says (kind_text k) (call_form form) k
 form_says Bare k g =
     let a = good_then g in
     let c = called_says NoTailWord k a.rest in
@@ -109,13 +110,13 @@ form_says Led k g =
     says_as (call_form Led) k (tail_called s.token.bytes a.value k c s.is.1)
     (says_then a (table_says tail_word_text tail_words tails_are a.value a.front) (λ rest e. refl) (says_space (says_word (codes "call") refl c.ended c.says)))
 
-call_says : (k : Kind) → Good call k → Says (kind_text k) call k
+call_says : (k : Kind) → IsSpelled call k → Says (kind_text k) call k
 call_says k g = let f = good_any g in says_any f.0 (form_says f.0 k f.1)
 
 -- what can stand behind %x =
-pub assigned_says : (k : Kind) → Good assigned k → Says (kind_text k) assigned k
+pub assigned_says : (k : Kind) → IsSpelled assigned k → Says (kind_text k) assigned k
 assigned_says k g = by (good_either value call g)
   where
-    by : Good value k ⊎ Good call k → Says (kind_text k) assigned k
+    by : IsSpelled value k ⊎ IsSpelled call k → Says (kind_text k) assigned k
     by (inl h) = says_left call (value_kind_says k h)
     by (inr h) = says_right value (call_says k h)

@@ -8,8 +8,9 @@ use Rattle.ir_core.specs.Spell.{◌>>=◌, done, any, many, word}
 use Rattle.ir_core.specs.Forms.{typed}
 use Rattle.ir_core.specs.Instructions.{stored, fenced, case, BranchForm, Straight, Tested, branch_form, switched, returned, LastForm, Branches, Switches, Returns, Stops, last_form}
 use Rattle.ir_core.specs.Text.{typed_text, target_text, word_if, align_text, atomic_text, ordering_text, order_text, case_text, kind_text, in_spaces}
+use Rattle.text_laws.specs.Spelling.{IsSpelled}
 use Rattle.text_laws.proofs.Joined.{gives_then}
-use Rattle.text_laws.proofs.Good.{Good, good_then, good_done, good_any, good_either, good_many}
+use Rattle.text_laws.proofs.Good.{good_then, good_done, good_any, good_either, good_many}
 use Rattle.text_laws.proofs.Back.{flat, Says, AllSay, says_as, says_at, says_done, says_then, says_last, says_space, says_comma, says_mark, says_word, says_any, all_say, says_nil, says_spaced, spelled_cons, led_ended, spaced_gives, says_left, says_right}
 use Rattle.text_laws.proofs.Values.{typed_says, target_says}
 use Rattle.text_laws.proofs.Orders.{ended_then, flag_says, flag_ended, align_ended, align_says, order_says, access_says}
@@ -17,7 +18,7 @@ use Rattle.text_laws.proofs.ValueKinds.{good_next, Behind, behind_at}
 
 -- ---- stores and fences
 
-pub store_says : (k : Kind) → Good stored k → Behind (codes "store") stored k
+pub store_says : (k : Kind) → IsSpelled stored k → Behind (codes "store") stored k
 store_says k g =
     let a = good_then g in
     let b = good_then a.rest in
@@ -35,14 +36,14 @@ store_says k g =
           (says_then d o.says (align_ended e.value) (says_last (Store b.value c.value d.value) (align_says e.value e.front))))));
     })
 
-pub fence_says : (k : Kind) → Good fenced k → Behind (codes "fence") fenced k
+pub fence_says : (k : Kind) → IsSpelled fenced k → Behind (codes "fence") fenced k
 fence_says k g =
     let a = good_then g in
     behind_at (good_done a.rest) (record { body = codes " " ++ order_text a.value; text = refl; ended = λ rest e. refl; says = says_space (says_last Fence (order_says a.value a.front)) })
 
 -- ---- branches
 
-branch_says : (form : BranchForm) (k : Kind) → Good (branch_form form) k → Behind (codes "br") (branch_form form) k
+branch_says : (form : BranchForm) (k : Kind) → IsSpelled (branch_form form) k → Behind (codes "br") (branch_form form) k
 branch_says Straight k g =
     let a = good_then g in
     behind_at (good_done a.rest) (record { body = codes " " ++ target_text a.value; text = refl; ended = λ rest e. refl; says = says_space (says_last Br (target_says a.value a.front)) })
@@ -59,7 +60,7 @@ branch_says Tested k g =
 
 -- ---- switches
 
-case_says : (c : Case) → Good case c → Says (case_text c) case c
+case_says : (c : Case) → IsSpelled case c → Says (case_text c) case c
 case_says c g =
     let a = good_then g in
     let b = good_then a.rest in
@@ -79,7 +80,7 @@ cases_say (c ∷ cs) h =
       spelled = spelled_cons s.spelled r.spelled;
     }
 
-switch_says : (k : Kind) → Good switched k → Behind (codes "switch") switched k
+switch_says : (k : Kind) → IsSpelled switched k → Behind (codes "switch") switched k
 switch_says k g =
     let a = good_then g in
     let b = good_then a.rest in
@@ -101,10 +102,10 @@ returns_void = word (codes "void") >>= (λ nothing. done (Ret None))
 abbrev returns_value : List Lexeme → Kind → Type 0
 returns_value = typed >>= (λ v. done (Ret (Some v)))
 
-return_says : (k : Kind) → Good returned k → Behind (codes "ret") returned k
+return_says : (k : Kind) → IsSpelled returned k → Behind (codes "ret") returned k
 return_says k g = by (good_either returns_void returns_value g)
   where
-    by : Good returns_void k ⊎ Good returns_value k → Behind (codes "ret") returned k
+    by : IsSpelled returns_void k ⊎ IsSpelled returns_value k → Behind (codes "ret") returned k
     by (inl h) = behind_at (good_done (good_then h).rest) (record { body = codes " void"; text = refl; ended = λ rest e. refl; says = says_space (says_left returns_value (says_word (codes "void") refl (λ rest e. e) (says_done (Ret None)))) })
     by (inr h) = let a = good_then h in behind_at (good_done a.rest) (record { body = codes " " ++ typed_text a.value; text = refl; ended = λ rest e. refl; says = says_space (says_right returns_void (says_last (λ v. Ret (Some v)) (typed_says a.value a.front))) })
 
@@ -119,7 +120,7 @@ last_word Stops = codes "unreachable"
 any_branch : (k : Kind) (form : BranchForm) → Behind (codes "br") (branch_form form) k → Behind (codes "br") (any branch_form) k
 any_branch k form b = record { body = b.body; text = b.text; ended = b.ended; says = says_any form b.says }
 
-pub last_says : (form : LastForm) (k : Kind) → Good (last_form form) k → Behind (last_word form) (last_form form) k
+pub last_says : (form : LastForm) (k : Kind) → IsSpelled (last_form form) k → Behind (last_word form) (last_form form) k
 last_says Branches k g = let f = good_any g in any_branch k f.0 (branch_says f.0 k f.1)
 last_says Switches k g = switch_says k g
 last_says Returns k g = return_says k g

@@ -6,13 +6,14 @@ use Rattle.ir_core.specs.Bytes.{between, hex_byte, no_quote, every}
 use Rattle.ir_core.specs.Escapes.{hex_value, unescaped, quoted_bytes, stem_name}
 use Rattle.ir_core.specs.Formed.{is_byte}
 use Rattle.ir_core.specs.Numbers.{begins_with}
-use Rattle.ir_core.specs.Text.{hex_digit, is_plain_byte, escaped, quoted}
+use Rattle.ir_core.specs.Text.{hex_digit, is_plain_byte, escaped, quoted, name_text, is_word}
 use Rattle.ir_core.proofs.Runs.{by_test, if_true, if_false, every_first, every_more, every_append, every_taken}
+use Rattle.text_laws.specs.Spelling.{AreBytes}
 
 -- ---- hexadecimal digits
 
 abbrev is_fine_digit : ℕ → ℕ → Bool
-is_fine_digit n d = if hex_byte d then (if hex_value d == n then (if d == 92 then false else no_quote d) else false) else false
+is_fine_digit n d = if hex_byte d then (if hex_value d == n then (if d == 92 then false else if no_quote d then is_byte d else false) else false) else false
 
 digit_fine : (n : ℕ) → n < 16 → is_fine_digit n (hex_digit n) ≡ true
 digit_fine zero h = refl
@@ -48,6 +49,7 @@ pub record HexDigit (n d : ℕ) : Type 0 where
   pub value : hex_value d ≡ n
   pub plain : (d == 92) ≡ false
   pub inner : no_quote d ≡ true
+  pub byte : is_byte d ≡ true
 
 hex_of : (n : ℕ) → n < 16 → HexDigit n (hex_digit n)
 hex_of n h =
@@ -55,7 +57,8 @@ hex_of n h =
     let a = both (hex_byte d) _ (digit_fine n h) in
     let b = both (hex_value d == n) _ a.1 in
     let c = neither (d == 92) _ b.1 in
-    record { hex = a.0; value = eqb-true (hex_value d) n b.0; plain = c.0; inner = c.1 }
+    let e = both (no_quote d) _ c.1 in
+    record { hex = a.0; value = eqb-true (hex_value d) n b.0; plain = c.0; inner = e.0; byte = e.1 }
 
 -- ---- what the escapes spell
 
@@ -77,6 +80,7 @@ unescaped_hex n m d e rest h k =
 pub record Escapes (c : ℕ) (ys : List ℕ) : Type 0 where
   pub back : (rest : List ℕ) → unescaped (ys ++ rest) ≡ c ∷ unescaped rest
   pub inner : every no_quote ys ≡ true
+  pub bytes : AreBytes ys
 
 escapes : (c : ℕ) → c < 256 → Escapes c (escaped c)
 escapes c l = by_test (is_plain_byte c) (λ e. subst (Escapes c) (sym (if_true _ _ _ e)) (plain e)) (λ e. subst (Escapes c) (sym (if_false _ _ _ e)) hexed)
@@ -85,7 +89,7 @@ escapes c l = by_test (is_plain_byte c) (λ e. subst (Escapes c) (sym (if_true _
     plain e =
         let a = neither (c == 34) _ e in
         let b = neither (c == 92) _ a.1 in
-        record { back = λ rest. unescaped_plain c rest b.0; inner = every_more no_quote c [] (if_false (c == 34) false true a.0) refl }
+        record { back = λ rest. unescaped_plain c rest b.0; inner = every_more no_quote c [] (if_false (c == 34) false true a.0) refl; bytes = every_more is_byte c [] (lt-ltb c 256 l) refl }
 
     hexed : Escapes c (92 ∷ hex_digit (c / 16) ∷ hex_digit (c % 16) ∷ [])
     hexed =
@@ -96,6 +100,7 @@ escapes c l = by_test (is_plain_byte c) (λ e. subst (Escapes c) (sym (if_true _
         record {
           back = λ rest. unescaped_hex (c / 16) (c % 16) d e rest h k ∙ ap (λ x. x ∷ unescaped rest) (let z : 16 * (c / 16) + c % 16 ≡ c = omega arith in z);
           inner = every_more no_quote d (e ∷ []) h.inner (every_more no_quote e [] k.inner refl);
+          bytes = every_more is_byte d (e ∷ []) h.byte (every_more is_byte e [] k.byte refl);
         }
 
 is_below : (c : ℕ) → is_byte c ≡ true → c < 256
@@ -113,6 +118,23 @@ escaped_inner (c ∷ cs) h =
     let e = every_first is_byte c cs h in
     every_append no_quote (escaped c) (flat_map escaped cs) (escapes c (is_below c e.0)).inner (escaped_inner cs e.1)
 
+-- so does the text in quotes
+pub quoted_text_bytes : (x : List ℕ) → AreBytes x → AreBytes (quoted x)
+quoted_text_bytes x h = every_append is_byte (flat_map escaped x) (34 ∷ []) (inner x h) refl
+  where
+    inner : (x : List ℕ) → AreBytes x → AreBytes (flat_map escaped x)
+    inner [] h = refl
+    inner (c ∷ cs) h =
+        let e = every_first is_byte c cs h in
+        every_append is_byte (escaped c) (flat_map escaped cs) (escapes c (is_below c e.0)).bytes (inner cs e.1)
+
+pub name_text_bytes : (x : List ℕ) → AreBytes x → AreBytes (name_text x)
+name_text_bytes x h = by (is_word x)
+  where
+    by : (b : Bool) → AreBytes (cond b x (quoted x))
+    by true = h
+    by false = quoted_text_bytes x h
+
 pub quoted_back : (x : List ℕ) → every is_byte x ≡ true → quoted_bytes (quoted x) ≡ x
 quoted_back x h =
     let q = flat_map escaped x in
@@ -123,7 +145,7 @@ quoted_back x h =
 
 -- ---- names are bytes
 
-between_is : (low high c : ℕ) → between low high c ≡ true → (low ≤ c) × (c ≤ high)
+pub between_is : (low high c : ℕ) → between low high c ≡ true → (low ≤ c) × (c ≤ high)
 between_is low high c h =
     let e = neither (nat_lt c low) (nat_lt c (high + 1)) h in
     let k = ltb-true c (high + 1) e.1 in
@@ -139,9 +161,6 @@ hex_small c h = by_test (between 48 57 c) (λ e. subst (λ n. n ≤ 15) (sym (if
     two : cond (between 97 102 c) true (between 65 70 c) ≡ true → cond (between 97 102 c) (c - 87) (c - 55) ≤ 15
     two k = by_test (between 97 102 c) (λ e. subst (λ n. n ≤ 15) (sym (if_true _ (c - 87) _ e)) (let b = between_is 97 102 c e in let b1 = b.1 in omega arith))
         (λ e. subst (λ n. n ≤ 15) (sym (if_false _ (c - 87) _ e)) (let b = between_is 65 70 c (sym (if_false (between 97 102 c) true _ e) ∙ k) in let b1 = b.1 in omega arith))
-
-abbrev AreBytes : List ℕ → Type 0
-AreBytes xs = every is_byte xs ≡ true
 
 -- by the tests of one step
 step_bytes : (b c d : Bool) (x y z w : List ℕ) → AreBytes x → (c ≡ false → d ≡ true → AreBytes y) → AreBytes z → AreBytes w → AreBytes (cond b (cond c x (cond d y z)) w)

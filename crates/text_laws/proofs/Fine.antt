@@ -1,32 +1,19 @@
 -- What the pieces of a text show of its tokens.
 use Rattle.std.proofs.Common.{◌≡◌, ℕ, zero, suc, List, [], ◌∷◌, ◌++◌, take, drop, map, Option, Some, None, true, refl, sym, subst, inl, inr}
-use Rattle.ir_core.specs.Bytes.{Hash, every}
+use Rattle.std.specs.List.{AllByRecursion}
+use Rattle.ir_core.specs.Bytes.{every}
 use Rattle.ir_core.specs.Formed.{is_byte}
-use Rattle.ir_core.specs.Tokens.{TokenKind, Group, Passive, Bad, Led, IsDigits, IsPassive, Is, Spot, behind, Piece, Pieces, IsBad, Lexeme, lexemes, tokens_from}
+use Rattle.ir_core.specs.Tokens.{TokenKind, Group, Passive, Bad, Is, Spot, behind, Piece, Pieces, IsBad, Lexeme, lexemes, tokens_from}
 use Rattle.ir_core.proofs.Runs.{every_first, every_taken}
+use Rattle.text_laws.specs.Spelling.{Shaped, IsFine, AllFine}
 use Rattle.text_laws.proofs.Rows.{Bare, bare, bare_of, bare_kept, bare_from, bare_tokens}
+use Rattle.text_laws.proofs.Each.{each_append, each_parted}
 
--- the shape of the tokens of which the bytes are kept
-abbrev pub Shaped : TokenKind → List ℕ → Type 0
-Shaped Group xs = Led Hash IsDigits xs
-Shaped Passive xs = IsPassive xs
-Shaped _ xs = Unit {0}
-
-pub record Fine (b : Bare) : Type 0 where
-  pub bytes : every is_byte b.bytes ≡ true
-  pub shape : Shaped b.kind b.bytes
-
-abbrev pub AllFine : List Lexeme → Type 0
-AllFine [] = Unit {0}
-AllFine (t ∷ ts) = Fine (bare_of t) × AllFine ts
+abbrev FineBare : Bare → Type 0
+FineBare b = IsFine b.kind b.bytes
 
 abbrev AllBare : List Bare → Type 0
-AllBare [] = Unit {0}
-AllBare (b ∷ bs) = Fine b × AllBare bs
-
-joined : (xs ys : List Bare) → AllBare xs → AllBare ys → AllBare (xs ++ ys)
-joined [] ys h k = k
-joined (x ∷ xs) ys h k = (h.0, joined xs ys h.1 k)
+AllBare = AllByRecursion FineBare
 
 every_dropped : (n : ℕ) (xs : List ℕ) → every is_byte xs ≡ true → every is_byte (drop n xs) ≡ true
 every_dropped zero xs h = h
@@ -49,7 +36,7 @@ bad_fine spot text p ps b h =
 
 pieces_fine : (spot : Spot) (text : List ℕ) (ps : List Piece) → every is_byte text ≡ true → Pieces spot text ps → AllBare (bare_from text ps)
 pieces_fine spot text [] b h = tt
-pieces_fine spot text (p ∷ ps) b (inl h) = joined (bare_kept p.kind (take p.size text)) (bare_from (drop p.size text) ps) (kept_fine spot p.kind (take p.size text) (every_taken is_byte p.size text b) h.0.is) (pieces_fine (behind spot p.kind (take p.size text)) (drop p.size text) ps (every_dropped p.size text b) h.1)
+pieces_fine spot text (p ∷ ps) b (inl h) = each_append FineBare (bare_kept p.kind (take p.size text)) (bare_from (drop p.size text) ps) (kept_fine spot p.kind (take p.size text) (every_taken is_byte p.size text b) h.0.is) (pieces_fine (behind spot p.kind (take p.size text)) (drop p.size text) ps (every_dropped p.size text b) h.1)
 pieces_fine spot text (p ∷ ps) b (inr h) = bad_fine spot text p ps b h
 
 all_fine : (ts : List Lexeme) → AllBare (map bare_of ts) → AllFine ts
@@ -61,9 +48,11 @@ pub tokens_fine : (spot : Spot) (text : List ℕ) (ps : List Piece) → every is
 tokens_fine spot text ps b h = all_fine (lexemes text (tokens_from text 0 ps)) (subst AllBare (sym (bare_tokens text 0 ps)) (pieces_fine spot text ps b h))
 
 -- the tokens of two rows
-parted : (front rest : List Lexeme) → AllFine (front ++ rest) → AllFine front × AllFine rest
-parted [] rest h = (tt, h)
-parted (t ∷ front) rest h = let r = parted front rest h.1 in ((h.0, r.0), r.1)
+abbrev FineLexeme : Lexeme → Type 0
+FineLexeme t = IsFine t.kind t.bytes
+
+pub both_fine : (front rest : List Lexeme) → AllFine front → AllFine rest → AllFine (front ++ rest)
+both_fine front rest h k = each_append FineLexeme front rest h k
 
 pub fine_parts : (ts front rest : List Lexeme) → ts ≡ front ++ rest → AllFine ts → AllFine front × AllFine rest
-fine_parts ts front rest e h = parted front rest (subst AllFine e h)
+fine_parts ts front rest e h = each_parted FineLexeme front rest (subst AllFine e h)

@@ -11,12 +11,13 @@ use Rattle.ir_core.specs.Forms.{next}
 use Rattle.ir_core.specs.Instructions.{attachment, at_line, called, tail_words, stored, fenced, assigned, PlainForm, Assigns, Stores, Fences, Calls, TailCalls, plain_form, plain, LastForm, last_words, last_form, last}
 use Rattle.ir_core.specs.Text.{is_word, local_text, result_text, kind_text, inst_text}
 use Rattle.ir_core.specs.Lines.{inst_unlined}
+use Rattle.text_laws.specs.Spelling.{AreBytes, IsSpelled}
 use Rattle.text_laws.proofs.Rows.{Bare, bare}
 use Rattle.text_laws.proofs.Joined.{Gives, Inner, gives_then, closes_gives, closes_then, closes_space, closes_mark, gives_word, gives_inner, inner_of, inner_then, inner_line, inner_as}
 use Rattle.text_laws.proofs.Spelled.{Spelled, spelled_done, spelled_then, spelled_as, spelled_any, token_then, shows_word, shows_mark, shows_in, shows_line}
-use Rattle.text_laws.proofs.Good.{Good, good_then, good_done, good_one, good_any}
+use Rattle.text_laws.proofs.Good.{good_then, good_done, good_one, good_any}
 use Rattle.text_laws.proofs.Back.{Back, Says, Ended, empty_dropped}
-use Rattle.text_laws.proofs.Names.{AreBytes, local_bytes, local_bare, gives_local, shows_local, WordsAre, in_table}
+use Rattle.text_laws.proofs.Names.{local_bytes, local_bare, gives_local, shows_local, WordsAre, in_table}
 use Rattle.text_laws.proofs.ValueKinds.{Behind}
 use Rattle.text_laws.proofs.Calls.{Called, called_says, tail_word_text, tails_are, tail_called, assigned_says}
 use Rattle.text_laws.proofs.Effects.{store_says, fence_says, last_word, last_says}
@@ -67,7 +68,7 @@ tail_back w t k c h =
 inst_at : {F : List Lexeme → Inst → Type 0} {a : List ℕ} (r : Option (List ℕ)) (k : Kind) {i : Inst} (line : ℕ) → i ≡ at_line r line k → a ≡ result_text r ++ kind_text k → Back Gives a F (Lined r k) → Back Gives (whole_text i) F (Same i)
 inst_at {F = F} r k line e t b = subst (λ j. Back Gives (whole_text j) F (Same j)) (sym e) (subst (λ x. Back Gives x F (Lined r k)) t b)
 
-form_back : (form : PlainForm) (i : Inst) → Good (plain_form form) i → Back Gives (whole_text i) (plain_form form) (Same i)
+form_back : (form : PlainForm) (i : Inst) → IsSpelled (plain_form form) i → Back Gives (whole_text i) (plain_form form) (Same i)
 form_back Assigns i g =
     let a = good_then g in
     let b = good_then (good_then a.rest).rest in
@@ -102,7 +103,7 @@ whole_inner : (i : Inst) (ls : List Bare) → Gives (whole_text i) ls → Inner 
 whole_inner i ls g = inner_then (inner_of (closes_then closes_space closes_space)) (inner_as (append-nil ls) (gives_inner g inner_line (λ rest. refl)))
 
 -- an instruction that ends no block
-pub plain_back : (i : Inst) → Good plain i → Back Inner (inst_text i) plain (Same i)
+pub plain_back : (i : Inst) → IsSpelled plain i → Back Inner (inst_text i) plain (Same i)
 plain_back i g =
     let a = good_then g in
     let b = good_then a.rest in
@@ -134,7 +135,7 @@ last_at form w k h b =
           spelled_done (at_line None y.1 l) (Lined None k) (λ i. record { result = None; kind = sym q i; line = 0 })))));
     }
 
-pub last_back : (i : Inst) → Good last i → Back Inner (inst_text i) last (Same i)
+pub last_back : (i : Inst) → IsSpelled last i → Back Inner (inst_text i) last (Same i)
 last_back i g =
     let a = good_then g in
     let b = good_then a.rest in

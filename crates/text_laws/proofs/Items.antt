@@ -1,24 +1,25 @@
 -- Items of a module: what spells one is spelled by its canonical text, but for lines.
-use Rattle.std.proofs.Common.{◌≡◌, ℕ, List, [], ◌∷◌, ◌++◌, append_assoc, map, Bool, true, false, cond, refl, sym, ap, subst, inl, inr, ◌⊎◌, codes}
-use Rattle.std.specs.List.{flat_map, filter}
+use Rattle.std.proofs.Common.{◌≡◌, ℕ, List, [], ◌∷◌, ◌++◌, append_assoc, map, refl, sym, ap, subst, inl, inr, ◌⊎◌, codes}
+use Rattle.std.specs.List.{flat_map}
 use Rattle.ir_core.specs.declared.module.TypeDef.{TypeDef}
 use Rattle.ir_core.specs.declared.module.Global.{Global as GlobalItem}
 use Rattle.ir_core.specs.declared.module.Function.{Function}
 use Rattle.ir_core.specs.Tokens.{Passive, Lexeme, IsPassive}
 use Rattle.ir_core.specs.Spell.{one, many}
-use Rattle.ir_core.specs.Language.{definition, declaration, Item, TypeItem, VariableItem, FunctionItem, LineItem, IsPassiveLine, item, item_types, item_globals, item_functions, item_lines}
+use Rattle.ir_core.specs.Language.{definition, declaration, Item, TypeItem, VariableItem, FunctionItem, LineItem, IsPassiveLine, item, is_prelude_line}
 use Rattle.ir_core.specs.Text.{line_text, type_def_text, global_text, function_text}
 use Rattle.ir_core.specs.Lines.{type_unlined, global_unlined, function_unlined}
+use Rattle.text_laws.specs.Parts.{FormedFunction, FormedType, FormedGlobal, FormedLine}
 use Rattle.text_laws.proofs.Rows.{Bare, bare, bare_of, Outer}
 use Rattle.text_laws.proofs.Joined.{OnLines, regroup_outer}
 use Rattle.text_laws.proofs.Spelled.{Shows, no_tokens, spelled_one}
 use Rattle.text_laws.proofs.LineFronts.{passive_outer}
-use Rattle.text_laws.proofs.Fine.{Shaped}
-use Rattle.text_laws.proofs.Good.{Good, AllGood, good_one}
+use Rattle.text_laws.specs.Spelling.{Shaped, AreBytes, IsSpelled}
+use Rattle.text_laws.proofs.Good.{good_one, good_either}
 use Rattle.text_laws.proofs.Back.{Back}
 use Rattle.text_laws.proofs.Blocks.{Like, AllLike, like_cons}
-use Rattle.text_laws.proofs.Definitions.{FunctionLike, definition_back, declaration_back}
-use Rattle.text_laws.proofs.Globals.{TypeLike, type_back, GlobalLike, global_back}
+use Rattle.text_laws.proofs.Definitions.{FunctionLike, definition_parts, declaration_parts, function_back}
+use Rattle.text_laws.proofs.Globals.{TypeLike, type_back, GlobalLike, global_back, type_parts, global_parts}
 
 -- ---- one item behind the other
 
@@ -61,10 +62,10 @@ defined_item f s = record { tokens = s.tokens; lexed = s.lexed; spelled = record
 declared_item : (f : Function) → FunctionLike f declaration → ItemLike (FunctionItem f)
 declared_item f s = record { tokens = s.tokens; lexed = s.lexed; spelled = record { all = λ ts e. let a = s.spelled.all ts e in (FunctionItem a.0, inr a.1, ap FunctionItem a.2) } }
 
-line_item : (line : List ℕ) → IsPassive line → ItemLike (LineItem line)
-line_item line h = record {
+line_item : (line : List ℕ) → AreBytes line → IsPassive line → ItemLike (LineItem line)
+line_item line n h = record {
   tokens = bare Passive line ∷ [];
-  lexed = record { before = λ rest ms o. subst (λ t. Outer t (bare Passive line ∷ ms)) (sym (append_assoc line (codes "\n") rest)) (passive_outer line rest ms h o) };
+  lexed = record { before = λ rest ms o. subst (λ t. Outer t (bare Passive line ∷ ms)) (sym (append_assoc line (codes "\n") rest)) (passive_outer line rest ms n h o) };
   spelled = record { all = λ ts e. by ts e };
 }
   where
@@ -74,54 +75,33 @@ line_item line h = record {
     by : (ts : List Lexeme) → map bare_of ts ≡ bare Passive line ∷ [] → (x : Item) × item ts x × (LineItem line ≡ item_unlined x)
     by ts e = let a = (spelled_one {Is = IsPassiveLine} {P = λ x. line ≡ x} shows).all ts e in (LineItem a.0, a.1, ap LineItem a.2)
 
--- ---- the items of each kind
+-- ---- what an item is by its parts
 
--- each of a list is spelled when it stands alone
-abbrev pub AllItems : {X : Type 0} → (X → Item) → List X → Type 0
-AllItems g [] = Unit {0}
-AllItems g (x ∷ xs) = ItemLike (g x) × AllItems g xs
+abbrev pub IsItem : Item → Type 0
+IsItem (TypeItem d) = FormedType d
+IsItem (VariableItem g) = FormedGlobal g
+IsItem (FunctionItem f) = FormedFunction f
+IsItem (LineItem line) = FormedLine (is_prelude_line line) line
 
-items_append : {X : Type 0} (g : X → Item) (xs ys : List X) → AllItems g xs → AllItems g ys → AllItems g (xs ++ ys)
-items_append g [] ys h k = k
-items_append g (x ∷ xs) ys h k = (h.0, items_append g xs ys h.1 k)
-
--- what an item gives of one kind
-of_item : (x : Item) → Good item x → AllItems TypeItem (item_types x) × AllItems VariableItem (item_globals x) × AllItems FunctionItem (item_functions x) × AllItems LineItem (item_lines x)
-of_item (TypeItem d) g = ((type_item d (type_back d (record { tokens = g.tokens; fine = g.fine; is = g.is })), tt), tt, tt, tt)
-of_item (VariableItem d) g = (tt, (variable_item d (global_back d (record { tokens = g.tokens; fine = g.fine; is = g.is })), tt), tt, tt)
-of_item (FunctionItem f) g = (tt, tt, (by g.is, tt), tt)
+pub item_parts : (x : Item) → IsSpelled item x → IsItem x
+item_parts (TypeItem d) g = type_parts d (record { tokens = g.tokens; fine = g.fine; is = g.is })
+item_parts (VariableItem d) g = global_parts d (record { tokens = g.tokens; fine = g.fine; is = g.is })
+item_parts (FunctionItem f) g = by (good_either definition declaration (record { tokens = g.tokens; fine = g.fine; is = g.is }))
   where
-    by : definition g.tokens f ⊎ declaration g.tokens f → ItemLike (FunctionItem f)
-    by (inl h) = defined_item f (definition_back f (record { tokens = g.tokens; fine = g.fine; is = h }))
-    by (inr h) = declared_item f (declaration_back f (record { tokens = g.tokens; fine = g.fine; is = h }))
-of_item (LineItem line) g =
-    let k : Good (one IsPassiveLine) line = record { tokens = g.tokens; fine = g.fine; is = g.is } in
+    by : IsSpelled definition f ⊎ IsSpelled declaration f → FormedFunction f
+    by (inl h) = definition_parts f h
+    by (inr h) = declaration_parts f h
+item_parts (LineItem line) g =
+    let k : IsSpelled (one IsPassiveLine) line = record { tokens = g.tokens; fine = g.fine; is = g.is } in
     let s = good_one k in
-    (tt, tt, tt, (line_item line (subst IsPassive s.is.1 (subst (λ k. Shaped k s.token.bytes) s.is.0 s.fine.shape)), tt))
+    record { bytes = subst AreBytes s.is.1 s.fine.bytes; passive = subst IsPassive s.is.1 (subst (λ k. Shaped k s.token.bytes) s.is.0 s.fine.shape); place = refl }
 
-pub record ItemsLike (xs : List Item) : Type 0 where
-  pub types : AllItems TypeItem (flat_map item_types xs)
-  pub globals : AllItems VariableItem (flat_map item_globals xs)
-  pub functions : AllItems FunctionItem (flat_map item_functions xs)
-  pub lines : AllItems LineItem (flat_map item_lines xs)
-
-pub items_like : (xs : List Item) → AllGood item xs → ItemsLike xs
-items_like [] g = record { types = tt; globals = tt; functions = tt; lines = tt }
-items_like (x ∷ xs) g =
-    let a = of_item x g.0 in
-    let r = items_like xs g.1 in
-    record {
-      types = items_append TypeItem (item_types x) (flat_map item_types xs) a.0 r.types;
-      globals = items_append VariableItem (item_globals x) (flat_map item_globals xs) a.1 r.globals;
-      functions = items_append FunctionItem (item_functions x) (flat_map item_functions xs) a.2 r.functions;
-      lines = items_append LineItem (item_lines x) (flat_map item_lines xs) a.3 r.lines;
-    }
-
--- those of the lines that pass a test
-pub lines_filtered : (p : List ℕ → Bool) (ls : List (List ℕ)) → AllItems LineItem ls → AllItems LineItem (filter p ls)
-lines_filtered p [] h = tt
-lines_filtered p (l ∷ ls) h = by (p l) (lines_filtered p ls h.1)
+pub item_back : (x : Item) → IsItem x → ItemLike x
+item_back (TypeItem d) p = type_item d (type_back d p)
+item_back (VariableItem d) p = variable_item d (global_back d p)
+item_back (FunctionItem f) p = by (function_back f p)
   where
-    by : (b : Bool) → AllItems LineItem (filter p ls) → AllItems LineItem (cond b (l ∷ filter p ls) (filter p ls))
-    by true r = (h.0, r)
-    by false r = r
+    by : FunctionLike f definition ⊎ FunctionLike f declaration → ItemLike (FunctionItem f)
+    by (inl s) = defined_item f s
+    by (inr s) = declared_item f s
+item_back (LineItem line) p = line_item line p.bytes p.passive

@@ -6,10 +6,12 @@ use Rattle.ir_core.specs.Bytes.{Class, Bracket, Digit, Dash, Letter, class_of, i
 use Rattle.ir_core.specs.Tokens.{TokenKind, Word, Label, Number, Float, CText, Mark, Spot, is_outside, behind}
 use Rattle.ir_core.specs.Scan.{Literal, Minus, Whole, Neither, literal_start, literal_step, is_float, is_no_literal, longest, run, piece, is_number_tail, name_size, stem_size, c_text_size, by_colon, by_size, by_name, by_tail, word_piece, digits_piece, by_class, plain_at, line_size, passive_size, begins_passive}
 use Rattle.ir_core.specs.Text.{is_word, is_word_from, is_numeral}
-use Rattle.ir_core.proofs.Runs.{by_test, if_true, if_false, run_ended, every_first, every_more, digit_class, tail_made}
+use Rattle.ir_core.proofs.Runs.{by_test, if_true, if_false, run_ended, every_first, every_more, every_append, digit_class, tail_made}
 use Rattle.ir_core.proofs.Literals.{after, longest_fits, longest_bound, longest_stops, colon_stops}
 use Rattle.ir_core.proofs.Below.{name_made, size_none, some_or_none, float_longer}
 use Rattle.ir_core.proofs.Lexing.{piece_no_passive}
+use Rattle.ir_core.specs.Formed.{is_byte}
+use Rattle.text_laws.proofs.TextBytes.{word_bytes, digits_bytes, mark_byte}
 use Rattle.text_laws.proofs.Rows.{Bare, Lexed, NoBrace, Outer, bare, one_more, plain_more, token_more}
 use Rattle.text_laws.proofs.Endings.{Ends, ends_word, more, no_colon, no_string, run_to, stops}
 use Rattle.text_laws.proofs.Numerals.{dash_by, dash_is_word, if_not, minus_numeral, no_c_text, no_literal_of}
@@ -54,7 +56,7 @@ word_piece_is (b ∷ ws) [] h e = absurd (let f : false ≡ true = e in cc)
 word_piece_is (b ∷ ws) (c ∷ rest) h e = word_by (class_of b) b ws c rest h (ends_word c e).0 (no_string c e) (stops c e) (suc (length ws)) Word (no_colon Word c (suc (length ws)) e)
 
 pub word_lexed : (d : ℕ) (w rest : List ℕ) (ls : List Bare) → is_word w ≡ true → Ends rest → Lexed d rest ls → Lexed d (w ++ rest) (bare Word w ∷ ls)
-word_lexed d w rest ls h e r = token_more d Word w rest ls (λ s. refl) (word_some w h) (word_piece_is w rest h e) (λ f. cc) r
+word_lexed d w rest ls h e r = token_more d Word w rest ls (λ s. refl) (word_bytes w h) (word_some w h) (word_piece_is w rest h e) (λ f. cc) r
 
 -- a word with its colon
 pub label_piece : (w : List ℕ) (rest : List ℕ) → is_word w ≡ true → plain_at (w ++ 58 ∷ rest) ≡ piece (Some Label) (length w + 1)
@@ -65,7 +67,7 @@ pub label_lexed : (d : ℕ) (w rest : List ℕ) (ls : List Bare) → is_word w �
 label_lexed d w rest ls h r =
     let l : length (w ++ 58 ∷ []) ≡ length w + 1 = length-append w (58 ∷ []) in
     let a : (w ++ 58 ∷ []) ++ rest ≡ w ++ 58 ∷ rest = append_assoc w (58 ∷ []) rest in
-    subst (λ t. Lexed d t (bare Label (w ++ 58 ∷ []) ∷ ls)) a (token_more d Label (w ++ 58 ∷ []) rest ls (λ s. refl) (omega arith) (ap plain_at a ∙ label_piece w rest h ∙ ap (piece (Some Label)) (sym l)) (λ f. cc) r)
+    subst (λ t. Lexed d t (bare Label (w ++ 58 ∷ []) ∷ ls)) a (token_more d Label (w ++ 58 ∷ []) rest ls (λ s. refl) (every_append is_byte w (58 ∷ []) (word_bytes w h) refl) (omega arith) (ap plain_at a ∙ label_piece w rest h ∙ ap (piece (Some Label)) (sym l)) (λ f. cc) r)
 
 -- a name behind its sign
 pub sign_piece : (kind : TokenKind) (w rest : List ℕ) → is_word w ≡ true → Ends rest → by_name kind (name_size (w ++ rest)) ≡ piece (Some kind) (suc (length w))
@@ -104,7 +106,7 @@ number_piece (d ∷ ds) (c ∷ rest) l h e =
 
 -- digits as a number
 pub number_lexed : (n : ℕ) (ds rest : List ℕ) (ls : List Bare) → 0 < length ds → every digit_byte ds ≡ true → Ends rest → Lexed n rest ls → Lexed n (ds ++ rest) (bare Number ds ∷ ls)
-number_lexed n ds rest ls l h e r = token_more n Number ds rest ls (λ s. refl) l (number_piece ds rest l h e) (λ f. cc) r
+number_lexed n ds rest ls l h e r = token_more n Number ds rest ls (λ s. refl) (digits_bytes ds h) l (number_piece ds rest l h e) (λ f. cc) r
 
 -- nor are they behind a -
 pub minus_no_float : (ds : List ℕ) (c : ℕ) (rest : List ℕ) → every digit_byte ds ≡ true → ((q : Literal) → literal_step q c ≡ Neither) → longest is_float Minus (ds ++ c ∷ rest) ≡ 0
@@ -141,7 +143,7 @@ minus_piece ds (c ∷ rest) l h e =
     ∙ ap (λ n. piece (Some Number) (n + 1)) d ∙ ap (piece (Some Number)) (more (length ds))
 
 pub minus_lexed : (n : ℕ) (ds rest : List ℕ) (ls : List Bare) → 0 < length ds → every digit_byte ds ≡ true → Ends rest → Lexed n rest ls → Lexed n (45 ∷ (ds ++ rest)) (bare Number (45 ∷ ds) ∷ ls)
-minus_lexed n ds rest ls l h e r = token_more n Number (45 ∷ ds) rest ls (λ s. refl) (omega arith) (minus_piece ds rest l h e) (λ f. cc) r
+minus_lexed n ds rest ls l h e r = token_more n Number (45 ∷ ds) rest ls (λ s. refl) (every_more is_byte 45 ds refl (digits_bytes ds h)) (omega arith) (minus_piece ds rest l h e) (λ f. cc) r
 
 -- ---- marks and blanks
 
@@ -161,32 +163,32 @@ no_brace m e spot = by (m == 123) (m == 125) e
 
 -- a mark that is no brace
 pub mark_lexed : (d m : ℕ) (rest : List ℕ) (ls : List Bare) → class_of m ≡ Bracket → is_brace m ≡ false → Lexed d rest ls → Lexed d (m ∷ rest) (bare (Mark m) (m ∷ []) ∷ ls)
-mark_lexed d m rest ls e n r = token_more d (Mark m) (m ∷ []) rest ls (no_brace m n) (omega arith) (mark_piece m rest e) (λ f. cc) r
+mark_lexed d m rest ls e n r = token_more d (Mark m) (m ∷ []) rest ls (no_brace m n) (every_more is_byte m [] (mark_byte m e) refl) (omega arith) (mark_piece m rest e) (λ f. cc) r
 
 -- a brace that opens, and one that closes
 pub open_lexed : (d : ℕ) (rest : List ℕ) (ls : List Bare) → Lexed (d + 1) rest ls → Lexed d (123 ∷ rest) (bare (Mark 123) (123 ∷ []) ∷ ls)
-open_lexed d rest ls r = record { at = λ spot k o. plain_more spot (Some (Mark 123)) (123 ∷ []) rest ls o (omega arith) refl (λ f. cc) (r.at (behind spot (Some (Mark 123)) (123 ∷ [])) (ap (λ n. n + 1) k) refl) }
+open_lexed d rest ls r = record { at = λ spot k o. plain_more spot (Some (Mark 123)) (123 ∷ []) rest ls o refl (omega arith) refl (λ f. cc) (r.at (behind spot (Some (Mark 123)) (123 ∷ [])) (ap (λ n. n + 1) k) refl) }
 
 pub close_lexed : (d : ℕ) (rest : List ℕ) (ls : List Bare) → Lexed d rest ls → Lexed (d + 1) (125 ∷ rest) (bare (Mark 125) (125 ∷ []) ∷ ls)
-close_lexed d rest ls r = record { at = λ spot k o. plain_more spot (Some (Mark 125)) (125 ∷ []) rest ls o (omega arith) refl (λ f. cc) (r.at (behind spot (Some (Mark 125)) (125 ∷ [])) (let z : spot.depth - 1 ≡ d = omega arith in z) refl) }
+close_lexed d rest ls r = record { at = λ spot k o. plain_more spot (Some (Mark 125)) (125 ∷ []) rest ls o refl (omega arith) refl (λ f. cc) (r.at (behind spot (Some (Mark 125)) (125 ∷ [])) (let z : spot.depth - 1 ≡ d = omega arith in z) refl) }
 
 -- a space
 pub space_lexed : (d : ℕ) (rest : List ℕ) (ls : List Bare) → Lexed d rest ls → Lexed d (32 ∷ rest) ls
-space_lexed d rest ls r = record { at = λ spot k o. plain_more spot None (32 ∷ []) rest ls o (omega arith) refl (λ f. cc) (r.at (behind spot None (32 ∷ [])) k o) }
+space_lexed d rest ls r = record { at = λ spot k o. plain_more spot None (32 ∷ []) rest ls o refl (omega arith) refl (λ f. cc) (r.at (behind spot None (32 ∷ [])) k o) }
 
 pub inside : (d : ℕ) (spot : Spot) → spot.depth ≡ d + 1 → is_outside (record { depth = spot.depth; first = true }) ≡ false
 inside d spot e = by_test (spot.depth == 0) (λ h. let k = eqb-true spot.depth 0 h in absurd (omega arith)) (λ h. h)
 
 -- a line end inside braces, and one outside
 pub line_lexed : (d : ℕ) (rest : List ℕ) (ls : List Bare) → Lexed (d + 1) rest ls → Lexed (d + 1) (10 ∷ rest) ls
-line_lexed d rest ls r = record { at = λ spot k o. plain_more spot None (10 ∷ []) rest ls o (omega arith) refl (λ f. cc) (r.at (behind spot None (10 ∷ [])) k (inside d spot k)) }
+line_lexed d rest ls r = record { at = λ spot k o. plain_more spot None (10 ∷ []) rest ls o refl (omega arith) refl (λ f. cc) (r.at (behind spot None (10 ∷ [])) k (inside d spot k)) }
 
 pub outer_line : (rest : List ℕ) (ls : List Bare) → Outer rest ls → Lexed 0 (10 ∷ rest) ls
-outer_line rest ls r = record { at = λ spot k o. plain_more spot None (10 ∷ []) rest ls o (omega arith) refl (λ f. cc) (r.at (behind spot None (10 ∷ [])) k refl) }
+outer_line rest ls r = record { at = λ spot k o. plain_more spot None (10 ∷ []) rest ls o refl (omega arith) refl (λ f. cc) (r.at (behind spot None (10 ∷ [])) k refl) }
 
 -- a word at the front of a line, which begins no passive line
 pub outer_word : (w rest : List ℕ) (ls : List Bare) → is_word w ≡ true → Ends rest → passive_size (w ++ rest) ≡ 0 → Lexed 0 rest ls → Outer (w ++ rest) (bare Word w ∷ ls)
-outer_word w rest ls h e z r = record { at = λ spot k f. one_more spot (Some Word) w rest ls (word_some w h) (piece_no_passive spot (w ++ rest) z ∙ word_piece_is w rest h e) (λ f. cc) (r.at (behind spot (Some Word) w) k refl) }
+outer_word w rest ls h e z r = record { at = λ spot k f. one_more spot (Some Word) w rest ls (word_bytes w h) (word_some w h) (piece_no_passive spot (w ++ rest) z ∙ word_piece_is w rest h e) (λ f. cc) (r.at (behind spot (Some Word) w) k refl) }
 
 -- what begins with a d is no passive line
 pub no_passive_d : (rest : List ℕ) → passive_size (100 ∷ rest) ≡ 0

@@ -2,6 +2,8 @@ pub mod Back
 pub mod Blocks
 pub mod Calls
 pub mod Definitions
+pub mod Each
+pub mod Edited
 pub mod Effects
 pub mod Endings
 pub mod Escaped
@@ -14,6 +16,7 @@ pub mod Insts
 pub mod Items
 pub mod Joined
 pub mod Lexed
+pub mod Lines
 pub mod LineFronts
 pub mod Modules
 pub mod Names
@@ -23,6 +26,7 @@ pub mod Orders
 pub mod Quoted
 pub mod Rows
 pub mod Spelled
+pub mod TextBytes
 pub mod Types
 pub mod ValueKinds
 pub mod Values

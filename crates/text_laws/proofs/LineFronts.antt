@@ -11,6 +11,7 @@ use Rattle.ir_core.specs.Text.{is_word, name_text, quoted}
 use Rattle.ir_core.proofs.Runs.{by_test, if_true, if_false, run_ended, run_fits, every_first}
 use Rattle.ir_core.proofs.Below.{some_or_none}
 use Rattle.ir_core.proofs.PassiveLines.{passive_some, passive_bound, passive_is, trimmed_fits}
+use Rattle.text_laws.specs.Spelling.{AreBytes}
 use Rattle.text_laws.proofs.Rows.{Bare, bare, Outer, one_more}
 use Rattle.text_laws.proofs.Endings.{Ends, end_bytes}
 use Rattle.text_laws.proofs.Lexed.{outer_line}
@@ -33,8 +34,8 @@ passive_whole line rest h =
     below false n = omega arith
 
 -- a passive line and its line end
-pub passive_outer : (line rest : List ℕ) (ls : List Bare) → IsPassive line → Outer rest ls → Outer (line ++ 10 ∷ rest) (bare Passive line ∷ ls)
-passive_outer line rest ls h r = record { at = λ spot k f. one_more spot (Some Passive) line (10 ∷ rest) ls (passive_some line h) (here spot k f) (λ g. cc) ((outer_line rest ls r).at (behind spot (Some Passive) line) k refl) }
+pub passive_outer : (line rest : List ℕ) (ls : List Bare) → AreBytes line → IsPassive line → Outer rest ls → Outer (line ++ 10 ∷ rest) (bare Passive line ∷ ls)
+passive_outer line rest ls b h r = record { at = λ spot k f. one_more spot (Some Passive) line (10 ∷ rest) ls b (passive_some line h) (here spot k f) (λ g. cc) ((outer_line rest ls r).at (behind spot (Some Passive) line) k refl) }
   where
     here : (spot : Spot) → spot.depth ≡ 0 → spot.first ≡ true → piece_at spot (line ++ 10 ∷ rest) ≡ piece (Some Passive) (length line)
     here spot k f =

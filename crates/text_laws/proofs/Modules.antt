@@ -1,25 +1,28 @@
 -- Modules: the canonical text of a module that some text spells is spelled by it, but for lines.
-use Rattle.std.proofs.Common.{◌≡◌, ℕ, ◌≤◌, take, codes, List, [], ◌∷◌, ◌++◌, append_assoc, length, map, Bool, true, false, cond, not, refl, sym, ap, ◌∙◌, subst}
-use Rattle.std.specs.List.{flat_map, filter}
+use Rattle.std.proofs.Common.{◌≡◌, ℕ, ◌≤◌, take, List, [], ◌∷◌, ◌++◌, append_assoc, length, map, Bool, true, false, cond, not, refl, sym, ap, ◌∙◌, subst, All}
+use Rattle.std.specs.List.{flat_map, filter, AllByRecursion}
 use Rattle.std.proofs.lemmas.List.{append-nil}
-use Rattle.ir_core.specs.declared.module.Function.{Function}
-use Rattle.ir_core.specs.declared.module.Block.{Block}
+use Rattle.std.proofs.lemmas.List.Elements.{All-from_recursion, recursion_from_All}
 use Rattle.ir_core.specs.declared.module.Module.{Module}
 use Rattle.ir_core.specs.Tokens.{text_start, text_limit, lexemes, tokens_from}
 use Rattle.ir_core.specs.Spell.{done}
 use Rattle.ir_core.specs.Language.{Item, TypeItem, VariableItem, FunctionItem, LineItem, item, item_types, item_globals, item_functions, item_lines, is_prelude_line, module_of, module_to_end}
-use Rattle.ir_core.specs.Text.{Text, name_text, line_text, type_def_text, global_text, function_text, body_text, block_text, inst_text, heading_text, param_text}
-use Rattle.ir_core.specs.Lines.{inst_unlined, block_unlined, type_unlined, global_unlined, function_unlined, unlined, SameButLines}
+use Rattle.ir_core.specs.Text.{Text, line_text, type_def_text, global_text, function_text}
+use Rattle.ir_core.specs.Lines.{type_unlined, global_unlined, function_unlined, unlined, SameButLines}
 use Rattle.ir_core.specs.Formed.{Formed, ReadsBack}
 use Rattle.ir_core.proofs.Runs.{if_true, if_false}
+use Rattle.text_laws.specs.Spelling.{IsSpelled}
+use Rattle.text_laws.specs.Parts.{FormedFunction, FormedType, FormedGlobal, FormedLine, FormedParts}
 use Rattle.text_laws.proofs.Rows.{Outer, outer_end, lexed_whole}
 use Rattle.text_laws.proofs.Joined.{OnLines}
 use Rattle.text_laws.proofs.Spelled.{spelled_done, spelled_then, spelled_as}
 use Rattle.text_laws.proofs.Fine.{tokens_fine}
-use Rattle.text_laws.proofs.Good.{Good, good_then, good_done, good_many}
+use Rattle.text_laws.proofs.Good.{good_then, good_done, good_many}
 use Rattle.text_laws.proofs.Back.{Back, flat}
-use Rattle.text_laws.proofs.Blocks.{AllLike}
-use Rattle.text_laws.proofs.Items.{item_text, item_unlined, AllItems, ItemsLike, items_like, lines_filtered, lines_like}
+use Rattle.text_laws.proofs.Blocks.{all_like}
+use Rattle.text_laws.proofs.Items.{item_text, item_unlined, lines_like, item_parts, item_back, IsItem}
+use Rattle.text_laws.proofs.Lines.{parts_same}
+use Rattle.text_laws.proofs.Each.{each_as, each_append, each_mapped}
 
 -- ---- rows of items of one kind
 
@@ -85,55 +88,39 @@ filter_append p (x ∷ xs) ys = by (p x) (filter_append p xs ys)
     by true e = ap (λ l. x ∷ l) e
     by false e = e
 
--- what has passed a test passes it, and fails the opposite one
-filter_twice : {X : Type 0} (p : X → Bool) (xs : List X) → filter p (filter p xs) ≡ filter p xs
-filter_twice p [] = refl
-filter_twice p (x ∷ xs) = by (p x) refl (filter_twice p xs)
-  where
-    by : (b : Bool) → p x ≡ b → filter p (filter p xs) ≡ filter p xs → filter p (cond b (x ∷ filter p xs) (filter p xs)) ≡ cond b (x ∷ filter p xs) (filter p xs)
-    by true e h = if_true (p x) (x ∷ filter p (filter p xs)) (filter p (filter p xs)) e ∙ ap (λ l. x ∷ l) h
-    by false e h = h
+filter_all : {X : Type 0} (p : X → Bool) (xs : List X) → AllByRecursion (λ x. p x ≡ true) xs → filter p xs ≡ xs
+filter_all p [] h = refl
+filter_all p (x ∷ xs) h = if_true (p x) (x ∷ filter p xs) (filter p xs) h.0 ∙ ap (λ l. x ∷ l) (filter_all p xs h.1)
 
-not_true : (b : Bool) → not b ≡ true → b ≡ false
-not_true true e = sym e
-not_true false e = refl
-
-filter_apart : {X : Type 0} (p q : X → Bool) → ((x : X) → q x ≡ not (p x)) → (xs : List X) → filter p (filter q xs) ≡ []
-filter_apart p q n [] = refl
-filter_apart p q n (x ∷ xs) = by (q x) refl (filter_apart p q n xs)
-  where
-    by : (b : Bool) → q x ≡ b → filter p (filter q xs) ≡ [] → filter p (cond b (x ∷ filter q xs) (filter q xs)) ≡ []
-    by true e h = if_false (p x) (x ∷ filter p (filter q xs)) (filter p (filter q xs)) (not_true (p x) (sym (n x) ∙ e)) ∙ h
-    by false e h = h
-
-not_not : (b : Bool) → b ≡ not (not b)
-not_not true = refl
-not_not false = refl
+filter_none : {X : Type 0} (p : X → Bool) (xs : List X) → AllByRecursion (λ x. p x ≡ false) xs → filter p xs ≡ []
+filter_none p [] h = refl
+filter_none p (x ∷ xs) h = if_false (p x) (x ∷ filter p xs) (filter p xs) h.0 ∙ filter_none p xs h.1
 
 abbrev is_tail_line : List ℕ → Bool
 is_tail_line line = not (is_prelude_line line)
 
-prelude_kept : (ls : List (List ℕ)) → filter is_prelude_line (filter is_prelude_line ls ++ filter is_tail_line ls) ≡ filter is_prelude_line ls
-prelude_kept ls =
-    filter_append is_prelude_line (filter is_prelude_line ls) (filter is_tail_line ls)
-    ∙ ap (λ l. l ++ filter is_prelude_line (filter is_tail_line ls)) (filter_twice is_prelude_line ls)
-    ∙ ap (λ l. filter is_prelude_line ls ++ l) (filter_apart is_prelude_line is_tail_line (λ x. refl) ls)
-    ∙ append-nil (filter is_prelude_line ls)
+-- lines of the prelude and of the tail are told apart
+prelude_kept : (ls ms : List (List ℕ)) → AllByRecursion (FormedLine true) ls → AllByRecursion (FormedLine false) ms → filter is_prelude_line (ls ++ ms) ≡ ls
+prelude_kept ls ms h k =
+    filter_append is_prelude_line ls ms
+    ∙ ap (λ l. l ++ filter is_prelude_line ms) (filter_all is_prelude_line ls (each_as (λ x p. p.place) ls h))
+    ∙ ap (λ l. ls ++ l) (filter_none is_prelude_line ms (each_as (λ x p. p.place) ms k))
+    ∙ append-nil ls
 
-tail_kept : (ls : List (List ℕ)) → filter is_tail_line (filter is_prelude_line ls ++ filter is_tail_line ls) ≡ filter is_tail_line ls
-tail_kept ls =
-    filter_append is_tail_line (filter is_prelude_line ls) (filter is_tail_line ls)
-    ∙ ap (λ l. l ++ filter is_tail_line (filter is_tail_line ls)) (filter_apart is_tail_line is_prelude_line (λ x. not_not (is_prelude_line x)) ls)
-    ∙ filter_twice is_tail_line ls
+tail_kept : (ls ms : List (List ℕ)) → AllByRecursion (FormedLine true) ls → AllByRecursion (FormedLine false) ms → filter is_tail_line (ls ++ ms) ≡ ms
+tail_kept ls ms h k =
+    filter_append is_tail_line ls ms
+    ∙ ap (λ l. l ++ filter is_tail_line ms) (filter_none is_tail_line ls (each_as (λ x p. ap not p.place) ls h))
+    ∙ filter_all is_tail_line ms (each_as (λ x p. ap not p.place) ms k)
 
 -- the items of a module in their order make up the module
-ordered : (xs : List Item) → module_of (in_order (module_of xs)) ≡ module_of xs
-ordered xs =
-    let m = module_of xs in
-    let ls = flat_map item_lines xs in
-    let p = ap (filter is_prelude_line) (order_lines m) ∙ prelude_kept ls in
-    let t = ap (filter is_tail_line) (order_lines m) ∙ tail_kept ls in
-    λ i. record { prelude = p i; types = order_types m i; globals = order_globals m i; functions = order_functions m i; tail = t i }
+ordered : (m : Module) → FormedParts m → module_of (in_order m) ≡ m
+ordered m h =
+    let p = recursion_from_All (FormedLine true) m.prelude h.prelude in
+    let t = recursion_from_All (FormedLine false) m.tail h.tail in
+    let before = ap (filter is_prelude_line) (order_lines m) ∙ prelude_kept m.prelude m.tail p t in
+    let behind = ap (filter is_tail_line) (order_lines m) ∙ tail_kept m.prelude m.tail p t in
+    λ i. record { prelude = before i; types = order_types m i; globals = order_globals m i; functions = order_functions m i; tail = behind i }
 
 -- ---- modules but for lines
 
@@ -175,69 +162,103 @@ module_unlined xs =
     let c = unlined_of item_functions function_unlined functions_unlined xs in
     λ i. record { prelude = p i; types = a i; globals = b i; functions = c i; tail = t i }
 
--- the canonical text has no lines
-insts_text : (b : Block) → block_text (block_unlined b) ≡ block_text b
-insts_text b = ap (λ t. name_text b.name ++ codes ":\n" ++ t) (flat_same inst_text inst_text inst_unlined (λ i. refl) b.insts)
+-- ---- the parts of a module
 
-body_same : (f : Function) (bs : List Block) → body_text (function_unlined f) (map block_unlined bs) ≡ body_text f bs
-body_same f [] = refl
-body_same f (b ∷ bs) = ap (λ t. codes "define " ++ heading_text f (map param_text f.params) ++ codes " {\n" ++ t ++ codes "}\n") (flat_same block_text block_text block_unlined insts_text (b ∷ bs))
+-- those of one kind
+rows_parts : {X : Type 0} (P : X → Type 0) (f : Item → List X) → ((x : Item) → IsItem x → AllByRecursion P (f x)) → (xs : List Item) → AllByRecursion IsItem xs → AllByRecursion P (flat_map f xs)
+rows_parts P f law [] h = tt
+rows_parts P f law (x ∷ xs) h = each_append P (f x) (flat_map f xs) (law x h.0) (rows_parts P f law xs h.1)
 
-text_unlined : (m : Module) → Text (unlined m) ≡ Text m
-text_unlined m =
-    let t = flat_same type_def_text type_def_text type_unlined (λ x. refl) m.types in
-    let g = flat_same global_text global_text global_unlined (λ x. refl) m.globals in
-    let f = flat_same function_text function_text function_unlined (λ x. body_same x x.blocks) m.functions in
-    λ i. flat_map line_text m.prelude ++ t i ++ g i ++ f i ++ flat_map line_text m.tail
+of_types : (x : Item) → IsItem x → AllByRecursion FormedType (item_types x)
+of_types (TypeItem d) p = (p, tt)
+of_types _ p = tt
 
--- ---- the law
+of_globals : (x : Item) → IsItem x → AllByRecursion FormedGlobal (item_globals x)
+of_globals (VariableItem d) p = (p, tt)
+of_globals _ p = tt
 
-all_items : {X : Type 0} (g : X → Item) (xs : List X) → AllItems g xs → AllLike OnLines item_text item item_unlined (map g xs)
-all_items g [] h = tt
-all_items g (x ∷ xs) h = (h.0, all_items g xs h.1)
+of_functions : (x : Item) → IsItem x → AllByRecursion FormedFunction (item_functions x)
+of_functions (FunctionItem d) p = (p, tt)
+of_functions _ p = tt
 
-like_append : (xs ys : List Item) → AllLike OnLines item_text item item_unlined xs → AllLike OnLines item_text item item_unlined ys → AllLike OnLines item_text item item_unlined (xs ++ ys)
-like_append [] ys h k = k
-like_append (x ∷ xs) ys h k = (h.0, like_append xs ys h.1 k)
+abbrev IsSomeLine : List ℕ → Type 0
+IsSomeLine line = FormedLine (is_prelude_line line) line
 
-order_like : (xs : List Item) → ItemsLike xs → AllLike OnLines item_text item item_unlined (in_order (module_of xs))
-order_like xs h =
-    let m = module_of xs in
-    like_append (map LineItem m.prelude) _ (all_items LineItem m.prelude (lines_filtered is_prelude_line (flat_map item_lines xs) h.lines))
-    (like_append (map TypeItem m.types) _ (all_items TypeItem m.types h.types)
-    (like_append (map VariableItem m.globals) _ (all_items VariableItem m.globals h.globals)
-    (like_append (map FunctionItem m.functions) (map LineItem m.tail) (all_items FunctionItem m.functions h.functions)
-    (all_items LineItem m.tail (lines_filtered is_tail_line (flat_map item_lines xs) h.lines)))))
+of_lines : (x : Item) → IsItem x → AllByRecursion IsSomeLine (item_lines x)
+of_lines (LineItem line) p = (p, tt)
+of_lines _ p = tt
 
--- a module of items
-pub module_back : (m : Module) → Good module_to_end m → Back OnLines (Text m) module_to_end (SameButLines m)
-module_back m g =
+-- lines that pass a test which tells where they stand
+lines_filtered : (before : Bool) (p : List ℕ → Bool) → ((line : List ℕ) → p line ≡ true → is_prelude_line line ≡ before) → (ls : List (List ℕ)) → AllByRecursion IsSomeLine ls → AllByRecursion (FormedLine before) (filter p ls)
+lines_filtered before p law [] h = tt
+lines_filtered before p law (l ∷ ls) h = by (p l) refl (lines_filtered before p law ls h.1)
+  where
+    by : (b : Bool) → p l ≡ b → AllByRecursion (FormedLine before) (filter p ls) → AllByRecursion (FormedLine before) (cond b (l ∷ filter p ls) (filter p ls))
+    by true e r = (record { bytes = h.0.bytes; passive = h.0.passive; place = law l e }, r)
+    by false e r = r
+
+not_true : (b : Bool) → not b ≡ true → b ≡ false
+not_true true e = sym e
+not_true false e = refl
+
+pub module_parts : (m : Module) → IsSpelled module_to_end m → FormedParts m
+module_parts m g =
     let a = good_then g in
     let xs = a.value in
-    let k = module_of xs in
-    let s = lines_like item_text item item_unlined (in_order k) (order_like xs (items_like xs (good_many item xs a.front))) in
-    let known : unlined k ≡ module_of (map item_unlined (in_order k)) = ap unlined (sym (ordered xs)) ∙ module_unlined (in_order k) in
-    subst (λ n. Back OnLines (Text n) module_to_end (SameButLines n)) (sym (good_done a.rest)) (record {
-      tokens = s.tokens;
-      lexed = subst (λ t. OnLines t s.tokens) (order_text k) s.lexed;
-      spelled = spelled_as (append-nil s.tokens) (spelled_then {T = λ ys. done (module_of ys)} {ls = s.tokens} {ms = []} {Q = SameButLines k} s.spelled (λ ys p.
-          spelled_done (module_of ys) (SameButLines k) (known ∙ ap module_of p ∙ sym (module_unlined ys))));
+    let h = each_as item_parts xs (good_many item xs a.front) in
+    let ls = rows_parts IsSomeLine item_lines of_lines xs h in
+    subst FormedParts (sym (good_done a.rest)) (record {
+      prelude = All-from_recursion (FormedLine true) _ (lines_filtered true is_prelude_line (λ l e. e) (flat_map item_lines xs) ls);
+      types = All-from_recursion FormedType _ (rows_parts FormedType item_types of_types xs h);
+      globals = All-from_recursion FormedGlobal _ (rows_parts FormedGlobal item_globals of_globals xs h);
+      functions = All-from_recursion FormedFunction _ (rows_parts FormedFunction item_functions of_functions xs h);
+      tail = All-from_recursion (FormedLine false) _ (lines_filtered false is_tail_line (λ l e. not_true (is_prelude_line l) e) (flat_map item_lines xs) ls);
     })
+
+-- ---- what is made of parts is spelled by its canonical text
+
+all_items : {X : Type 0} (P : X → Type 0) (g : X → Item) → ((x : X) → P x → IsItem (g x)) → (xs : List X) → All P xs → AllByRecursion IsItem (map g xs)
+all_items P g law xs h = each_mapped IsItem g law xs (recursion_from_All P xs h)
+
+-- a line is of the prelude or of the tail by itself
+line_item_is : (before : Bool) (line : List ℕ) → FormedLine before line → IsItem (LineItem line)
+line_item_is before line p = record { bytes = p.bytes; passive = p.passive; place = refl }
+
+order_items : (m : Module) → FormedParts m → AllByRecursion IsItem (in_order m)
+order_items m h =
+    each_append IsItem (map LineItem m.prelude) _ (all_items (FormedLine true) LineItem (line_item_is true) m.prelude h.prelude)
+    (each_append IsItem (map TypeItem m.types) _ (all_items FormedType TypeItem (λ x p. p) m.types h.types)
+    (each_append IsItem (map VariableItem m.globals) _ (all_items FormedGlobal VariableItem (λ x p. p) m.globals h.globals)
+    (each_append IsItem (map FunctionItem m.functions) (map LineItem m.tail) (all_items FormedFunction FunctionItem (λ x p. p) m.functions h.functions)
+    (all_items (FormedLine false) LineItem (line_item_is false) m.tail h.tail))))
+
+pub module_back : (m : Module) → FormedParts m → Back OnLines (Text m) module_to_end (SameButLines m)
+module_back m h =
+    let xs = in_order m in
+    let s = lines_like item_text item item_unlined xs (all_like OnLines item_text item item_unlined IsItem item_back xs (order_items m h)) in
+    let known : unlined m ≡ module_of (map item_unlined xs) = ap unlined (sym (ordered m h)) ∙ module_unlined xs in
+    record {
+      tokens = s.tokens;
+      lexed = subst (λ t. OnLines t s.tokens) (order_text m) s.lexed;
+      spelled = spelled_as (append-nil s.tokens) (spelled_then {T = λ ys. done (module_of ys)} {ls = s.tokens} {ms = []} {Q = SameButLines m} s.spelled (λ ys p.
+          spelled_done (module_of ys) (SameButLines m) (known ∙ ap module_of p ∙ sym (module_unlined ys))));
+    }
+
+-- the whole text
+pub whole_text : (m : Module) (b : Back OnLines (Text m) module_to_end (SameButLines m)) → Outer (Text m) b.tokens
+whole_text m b = subst (λ t. Outer t b.tokens) (append-nil (Text m)) (subst (Outer (Text m ++ [])) (append-nil b.tokens) (b.lexed.before [] [] outer_end))
 
 -- a text within the limit that is lexed so spells the module
 read_back : (m : Module) → Back OnLines (Text m) module_to_end (SameButLines m) → length (Text m) ≤ text_limit → ReadsBack (Text m) m
-read_back m s l =
-    let o = s.lexed.before [] [] outer_end in
-    let w : Outer (Text m) s.tokens = subst (λ t. Outer t s.tokens) (append-nil (Text m)) (subst (Outer (Text m ++ [])) (append-nil s.tokens) o) in
-    let r = lexed_whole (Text m) s.tokens l w in
-    let a = s.spelled.all (lexemes (take text_limit (Text m)) r.0) r.2 in
+read_back m b l =
+    let r = lexed_whole (Text m) b.tokens l (whole_text m b) in
+    let a = b.spelled.all (lexemes (take text_limit (Text m)) r.0) r.2 in
     (a.0, (r.0, r.1, a.1), a.2)
 
+-- ---- the laws
+
+pub parts_of_formed : (m : Module) → Formed m → FormedParts m
+parts_of_formed m f = parts_same m f.spelled f.same (module_parts f.spelled (record { tokens = lexemes f.text (tokens_from f.text 0 f.pieces); fine = tokens_fine text_start f.text f.pieces f.bytes f.whole; is = f.spells }))
+
 pub canonical_text_spells : (m : Module) → Formed m → length (Text m) ≤ text_limit → ReadsBack (Text m) m
-canonical_text_spells m f l =
-    let n = f.spelled in
-    let g : Good module_to_end n = record { tokens = lexemes f.text (tokens_from f.text 0 f.pieces); fine = tokens_fine text_start f.text f.pieces f.bytes f.whole; is = f.spells } in
-    let same : Text n ≡ Text m = sym (text_unlined n) ∙ ap Text (sym f.same) ∙ text_unlined m in
-    let k : length (Text n) ≤ text_limit = subst (λ t. length t ≤ text_limit) (sym same) l in
-    let r = read_back n (module_back n g) k in
-    subst (λ t. ReadsBack t m) same (r.0, r.1, f.same ∙ r.2)
+canonical_text_spells m f l = read_back m (module_back m (parts_of_formed m f)) l

@@ -1,7 +1,6 @@
 -- Names, groups and words: what spells them is spelled by their canonical text.
 use Rattle.std.proofs.Common.{◌≡◌, inl, inr, ℕ, ◌+◌, ◌-◌, List, [], ◌∷◌, ◌++◌, length, take, drop, true, false, ◌==◌, refl, sym, ap, ◌∙◌, subst, arith, length-append, take_at}
 use Rattle.std.proofs.lemmas.Bool.{eqb-true}
-use Rattle.ir_core.specs.Bytes.{every}
 use Rattle.ir_core.specs.Escapes.{stem_name, quoted_bytes}
 use Rattle.ir_core.specs.Formed.{is_byte}
 use Rattle.ir_core.specs.Tokens.{Local, Global, Label, Lexeme}
@@ -12,13 +11,11 @@ use Rattle.ir_core.proofs.Runs.{by_test, if_true, if_false, every_first, every_t
 use Rattle.text_laws.proofs.Rows.{Bare, bare}
 use Rattle.text_laws.proofs.Joined.{Gives, gives_word}
 use Rattle.text_laws.proofs.Spelled.{Shows, spelled_one, shows_in}
-use Rattle.text_laws.proofs.Escaped.{quoted_back, stem_bytes}
+use Rattle.text_laws.proofs.Escaped.{quoted_back, name_text_bytes, stem_bytes}
+use Rattle.text_laws.specs.Spelling.{AreBytes, IsSpelled}
 use Rattle.text_laws.proofs.Quoted.{begins_gives, local_begins, global_begins}
-use Rattle.text_laws.proofs.Good.{Good, Stands, good_one}
+use Rattle.text_laws.proofs.Good.{Stands, good_one}
 use Rattle.text_laws.proofs.Back.{Back, Says}
-
-abbrev pub AreBytes : List ℕ → Type 0
-AreBytes x = every is_byte x ≡ true
 
 -- ---- the name that a token spells
 
@@ -73,15 +70,15 @@ shows_label x h t e = (x, (ap (λ (b : Bare). b.kind) e, ap (λ (b : Bare). stem
     without_colon = ap (λ n. take n (name_text x ++ 58 ∷ [])) (let l : length (name_text x ++ 58 ∷ []) ≡ length (name_text x) + 1 = length-append (name_text x) (58 ∷ []) in let z : length (name_text x ++ 58 ∷ []) - 1 ≡ length (name_text x) = omega arith in z) ∙ take_at (name_text x) (58 ∷ []) (length (name_text x)) refl
 
 pub gives_local : (x : List ℕ) → AreBytes x → Gives (local_text x) (local_bare x ∷ [])
-gives_local x h = begins_gives Local (37 ∷ name_text x) (λ s. refl) (omega arith) (λ f. cc) (local_begins x h)
+gives_local x h = begins_gives Local (37 ∷ name_text x) (λ s. refl) (name_text_bytes x h) (omega arith) (λ f. cc) (local_begins x h)
 
 pub gives_global : (x : List ℕ) → AreBytes x → Gives (global_name_text x) (global_bare x ∷ [])
-gives_global x h = begins_gives Global (64 ∷ name_text x) (λ s. refl) (omega arith) (λ f. cc) (global_begins x h)
+gives_global x h = begins_gives Global (64 ∷ name_text x) (λ s. refl) (name_text_bytes x h) (omega arith) (λ f. cc) (global_begins x h)
 
 pub says_token : {X : Type 0} {Is : Lexeme → X → Type 0} {b : Bare} {text : List ℕ} {P : X → Type 0} → Gives text (b ∷ []) → Shows Is b P → Back Gives text (one Is) P
 says_token {b = b} g s = record { tokens = b ∷ []; lexed = g; spelled = spelled_one s }
 
-pub local_says : (x : List ℕ) → Good (one IsLocal) x → Says (local_text x) (one IsLocal) x
+pub local_says : (x : List ℕ) → IsSpelled (one IsLocal) x → Says (local_text x) (one IsLocal) x
 local_says x g = let b = local_bytes (good_one g) in says_token (gives_local x b) (shows_local x b)
 
 -- ---- words of tables
@@ -96,7 +93,7 @@ in_table show [] a w v h = absurd h
 in_table show (e ∷ es) a w v (inl h) = (ap show h.1 ∙ a.0 ∙ sym h.0, ap is_word h.0 ∙ a.1)
 in_table show (e ∷ es) a w v (inr h) = in_table show es a.2 w v h
 
-pub table_says : {V : Type 0} (show : V → List ℕ) (table : List (List ℕ × V)) → WordsAre show table → (v : V) → Good (one (IsWordIn table)) v → Says (show v) (one (IsWordIn table)) v
+pub table_says : {V : Type 0} (show : V → List ℕ) (table : List (List ℕ × V)) → WordsAre show table → (v : V) → IsSpelled (one (IsWordIn table)) v → Says (show v) (one (IsWordIn table)) v
 table_says show table a v g =
     let s = good_one g in
     let w = s.token.bytes in

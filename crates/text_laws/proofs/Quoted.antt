@@ -8,25 +8,26 @@ use Rattle.ir_core.specs.Tokens.{TokenKind, Local, Global, Label, CText, Group, 
 use Rattle.ir_core.specs.Scan.{run, class_at, piece, name_size, quoted_size, by_colon, by_name, by_class, quote_piece, word_piece, plain_at, passive_size, bad_piece}
 use Rattle.ir_core.specs.Text.{is_word, name_text, escaped, quoted}
 use Rattle.ir_core.specs.Tokens.{Text}
-use Rattle.ir_core.proofs.Runs.{by_test, if_true, if_false, run_ended, digits_every, digits_some}
+use Rattle.ir_core.proofs.Runs.{by_test, if_true, if_false, run_ended, every_append, digits_every, digits_some}
 use Rattle.ir_core.proofs.Below.{quoted_made, name_made, size_made}
 use Rattle.ir_core.proofs.Lexing.{piece_no_passive}
 use Rattle.text_laws.proofs.Rows.{Bare, bare, Lexed, Outer, NoBrace, one_more, token_more}
 use Rattle.text_laws.proofs.Endings.{Ends, ends_word}
 use Rattle.text_laws.proofs.Lexed.{sign_piece, line_lexed, label_lexed}
 use Rattle.text_laws.proofs.Joined.{Gives, Inner}
-use Rattle.text_laws.proofs.Escaped.{escaped_inner}
+use Rattle.text_laws.specs.Spelling.{AreBytes}
+use Rattle.text_laws.proofs.Escaped.{escaped_inner, quoted_text_bytes}
 
 -- before a byte that ends words the text is one token of this kind
 abbrev pub Begins : TokenKind → List ℕ → Type 0
 Begins kind text = (rest : List ℕ) → Ends rest → plain_at (text ++ rest) ≡ piece (Some kind) (length text)
 
-pub begins_gives : (kind : TokenKind) (text : List ℕ) → NoBrace kind text → 0 < length text → (Some kind ≡ Some Bad → ⊥) → Begins kind text → Gives text (bare kind text ∷ [])
-begins_gives kind text n l g b = record { before = λ d rest ms e r. token_more d kind text rest ms n l (b rest e) g r }
+pub begins_gives : (kind : TokenKind) (text : List ℕ) → NoBrace kind text → AreBytes text → 0 < length text → (Some kind ≡ Some Bad → ⊥) → Begins kind text → Gives text (bare kind text ∷ [])
+begins_gives kind text n h l g b = record { before = λ d rest ms e r. token_more d kind text rest ms n h l (b rest e) g r }
 
 -- at the front of a line
-pub begins_outer : (kind : TokenKind) (text rest : List ℕ) (ls : List Bare) → NoBrace kind text → 0 < length text → (Some kind ≡ Some Bad → ⊥) → Begins kind text → Ends rest → passive_size (text ++ rest) ≡ 0 → Lexed 0 rest ls → Outer (text ++ rest) (bare kind text ∷ ls)
-begins_outer kind text rest ls n l g b e z r = record { at = λ spot k f. one_more spot (Some kind) text rest ls l (piece_no_passive spot (text ++ rest) z ∙ b rest e) g (r.at _ (n spot ∙ k) refl) }
+pub begins_outer : (kind : TokenKind) (text rest : List ℕ) (ls : List Bare) → NoBrace kind text → AreBytes text → 0 < length text → (Some kind ≡ Some Bad → ⊥) → Begins kind text → Ends rest → passive_size (text ++ rest) ≡ 0 → Lexed 0 rest ls → Outer (text ++ rest) (bare kind text ∷ ls)
+begins_outer kind text rest ls n h l g b e z r = record { at = λ spot k f. one_more spot (Some kind) text rest ls h l (piece_no_passive spot (text ++ rest) z ∙ b rest e) g (r.at _ (n spot ∙ k) refl) }
 
 -- ---- quoted strings
 
@@ -109,7 +110,7 @@ quoted_label d x rest ls h r =
     let a : (quoted x ++ 58 ∷ []) ++ rest ≡ quoted x ++ 58 ∷ rest = append_assoc (quoted x) (58 ∷ []) rest in
     let p : plain_at ((quoted x ++ 58 ∷ []) ++ rest) ≡ piece (Some Label) (length (quoted x ++ 58 ∷ [])) =
     ap plain_at (a ∙ quoted_then x (58 ∷ rest)) ∙ quote_label (inner x) rest (escaped_inner x h) ∙ ap (piece (Some Label)) (let z : length (inner x) + 1 + 1 + 1 ≡ length (quoted x ++ 58 ∷ []) = omega arith in z) in
-    subst (λ t. Lexed d t (bare Label (quoted x ++ 58 ∷ []) ∷ ls)) a (token_more d Label (quoted x ++ 58 ∷ []) rest ls (λ s. refl) (omega arith) p (λ f. cc) r)
+    subst (λ t. Lexed d t (bare Label (quoted x ++ 58 ∷ []) ∷ ls)) a (token_more d Label (quoted x ++ 58 ∷ []) rest ls (λ s. refl) (every_append is_byte (quoted x) (58 ∷ []) (quoted_text_bytes x h) refl) (omega arith) p (λ f. cc) r)
 
 -- a label and the line end behind it
 pub label_inner : (x : List ℕ) → every is_byte x ≡ true → Inner (name_text x ++ codes ":\n") (bare Label (name_text x ++ 58 ∷ []) ∷ [])

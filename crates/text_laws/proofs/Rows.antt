@@ -4,8 +4,10 @@ use Rattle.std.proofs.lemmas.List.{append-nil, drop-drop, take_all}
 use Rattle.std.proofs.lemmas.Bool.{le-ltb}
 use Rattle.ir_core.specs.Tokens.{TokenKind, Bad, Token, Spot, text_start, is_outside, behind, Piece, Pieces, kept, tokens_from, text_limit, past_limit, Lexes, Lexeme, lexemes}
 use Rattle.ir_core.specs.Scan.{piece, plain_at, piece_at}
-use Rattle.ir_core.proofs.Runs.{if_false}
+use Rattle.ir_core.specs.Formed.{is_byte}
+use Rattle.ir_core.proofs.Runs.{if_false, every_append}
 use Rattle.ir_core.proofs.Lexing.{not_bad, piece_inside}
+use Rattle.text_laws.specs.Spelling.{AreBytes}
 
 -- a token without its place and its line
 pub record Bare : Type 0 where
@@ -28,11 +30,12 @@ abbrev pub bare_from : List ℕ → List Piece → List Bare
 bare_from text [] = []
 bare_from text (p ∷ ps) = bare_kept p.kind (take p.size text) ++ bare_from (drop p.size text) ps
 
--- from a spot on pieces make up the text, and these are their tokens
+-- from a spot on pieces make up the text, which is of bytes, and these are their tokens
 pub record LexedAt (spot : Spot) (text : List ℕ) (ls : List Bare) : Type 0 where
   pub pieces : List Piece
   pub make_up : Pieces spot text pieces
   pub tokens : bare_from text pieces ≡ ls
+  pub bytes : AreBytes text
 
 -- so it is behind d open braces, wherever no passive line may stand
 pub record Lexed (d : ℕ) (text : List ℕ) (ls : List Bare) : Type 0 where
@@ -44,7 +47,7 @@ pub record Outer (text : List ℕ) (ls : List Bare) : Type 0 where
 
 -- nothing is left
 pub outer_end : Outer [] []
-outer_end = record { at = λ spot e f. record { pieces = []; make_up = refl; tokens = refl } }
+outer_end = record { at = λ spot e f. record { pieces = []; make_up = refl; tokens = refl; bytes = refl } }
 
 -- ---- one piece more at the front
 
@@ -55,26 +58,27 @@ pub front_dropped : (front rest : List ℕ) → drop (length front) (front ++ re
 front_dropped front rest = drop_at front rest (length front) refl
 
 -- a piece at the front, where the rest is known
-pub one_more : (spot : Spot) (kind : Option TokenKind) (front rest : List ℕ) (ls : List Bare) → 0 < length front → piece_at spot (front ++ rest) ≡ piece kind (length front) → (kind ≡ Some Bad → ⊥) → LexedAt (behind spot kind front) rest ls → LexedAt spot (front ++ rest) (bare_kept kind front ++ ls)
-one_more spot kind front rest ls some e good r =
+pub one_more : (spot : Spot) (kind : Option TokenKind) (front rest : List ℕ) (ls : List Bare) → AreBytes front → 0 < length front → piece_at spot (front ++ rest) ≡ piece kind (length front) → (kind ≡ Some Bad → ⊥) → LexedAt (behind spot kind front) rest ls → LexedAt spot (front ++ rest) (bare_kept kind front ++ ls)
+one_more spot kind front rest ls h some e good r =
     let l = length-append front rest in
     let a = not_bad spot (front ++ rest) (piece kind (length front)) (omega arith) (sym e) good in
     record {
       pieces = piece kind (length front) ∷ r.pieces;
       make_up = inl (a, subst (λ t. Pieces (behind spot kind t) (drop (length front) (front ++ rest)) r.pieces) (sym (front_taken front rest)) (subst (λ t. Pieces (behind spot kind front) t r.pieces) (sym (front_dropped front rest)) r.make_up));
       tokens = ap (λ t. bare_kept kind t ++ bare_from (drop (length front) (front ++ rest)) r.pieces) (front_taken front rest) ∙ ap (λ t. bare_kept kind front ++ bare_from t r.pieces) (front_dropped front rest) ∙ ap (λ t. bare_kept kind front ++ t) r.tokens;
+      bytes = every_append is_byte front rest h r.bytes;
     }
 
 -- a piece that is no passive line
-pub plain_more : (spot : Spot) (kind : Option TokenKind) (front rest : List ℕ) (ls : List Bare) → is_outside spot ≡ false → 0 < length front → plain_at (front ++ rest) ≡ piece kind (length front) → (kind ≡ Some Bad → ⊥) → LexedAt (behind spot kind front) rest ls → LexedAt spot (front ++ rest) (bare_kept kind front ++ ls)
-plain_more spot kind front rest ls o some e good r = one_more spot kind front rest ls some (piece_inside spot (front ++ rest) o ∙ e) good r
+pub plain_more : (spot : Spot) (kind : Option TokenKind) (front rest : List ℕ) (ls : List Bare) → is_outside spot ≡ false → AreBytes front → 0 < length front → plain_at (front ++ rest) ≡ piece kind (length front) → (kind ≡ Some Bad → ⊥) → LexedAt (behind spot kind front) rest ls → LexedAt spot (front ++ rest) (bare_kept kind front ++ ls)
+plain_more spot kind front rest ls o h some e good r = one_more spot kind front rest ls h some (piece_inside spot (front ++ rest) o ∙ e) good r
 
 -- a token that opens and closes no brace
 abbrev pub NoBrace : TokenKind → List ℕ → Type 0
 NoBrace kind front = (spot : Spot) → (behind spot (Some kind) front).depth ≡ spot.depth
 
-pub token_more : (d : ℕ) (kind : TokenKind) (front rest : List ℕ) (ls : List Bare) → NoBrace kind front → 0 < length front → plain_at (front ++ rest) ≡ piece (Some kind) (length front) → (Some kind ≡ Some Bad → ⊥) → Lexed d rest ls → Lexed d (front ++ rest) (bare kind front ∷ ls)
-token_more d kind front rest ls n some e good r = record { at = λ spot k o. plain_more spot (Some kind) front rest ls o some e good (r.at (behind spot (Some kind) front) (n spot ∙ k) refl) }
+pub token_more : (d : ℕ) (kind : TokenKind) (front rest : List ℕ) (ls : List Bare) → NoBrace kind front → AreBytes front → 0 < length front → plain_at (front ++ rest) ≡ piece (Some kind) (length front) → (Some kind ≡ Some Bad → ⊥) → Lexed d rest ls → Lexed d (front ++ rest) (bare kind front ∷ ls)
+token_more d kind front rest ls n h some e good r = record { at = λ spot k o. plain_more spot (Some kind) front rest ls o h some e good (r.at (behind spot (Some kind) front) (n spot ∙ k) refl) }
 
 -- ---- the whole text
 

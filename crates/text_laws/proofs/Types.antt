@@ -9,11 +9,12 @@ use Rattle.ir_core.specs.Tokens.{Lexeme, Number}
 use Rattle.ir_core.specs.Spell.{one, any, IsWordIn, InTable}
 use Rattle.ir_core.specs.Forms.{IsNatural, integer_types, default_space, FlatForm, Integer, Pointer, NamedForm, flat_form, TypeForm, Flat, ArrayForm, StructForm, array_of, type_form, type_in, nesting_limit, type_, result_type}
 use Rattle.ir_core.specs.Text.{type_text, type_layer, local_text, in_spaces}
+use Rattle.text_laws.specs.Spelling.{IsSpelled}
 use Rattle.text_laws.proofs.Rows.{Bare, bare}
 use Rattle.text_laws.proofs.Joined.{Gives}
 use Rattle.text_laws.proofs.Lexed.{number_lexed}
 use Rattle.text_laws.proofs.NumberTokens.{decimal_value, decimal_digits, no_minus}
-use Rattle.text_laws.proofs.Good.{Good, good_then, good_done, good_one, good_any, good_either, good_list}
+use Rattle.text_laws.proofs.Good.{good_then, good_done, good_one, good_any, good_either, good_list}
 use Rattle.text_laws.proofs.Back.{Says, says_of, says_done, says_then, says_last, says_after, empty_maybe, says_space, says_mark, says_word, says_any, all_say, says_braced, says_left, says_right}
 use Rattle.text_laws.proofs.Names.{says_token, local_says, WordsAre, table_says}
 
@@ -22,7 +23,7 @@ use Rattle.text_laws.proofs.Names.{says_token, local_says, WordsAre, table_says}
 pub gives_decimal : (n : ℕ) → n < 2 ^ 64 → Gives (decimal n) (bare Number (decimal n) ∷ [])
 gives_decimal n h = record { before = λ d rest ms e r. number_lexed d (decimal n) rest ms (decimal_nonempty n h) (decimal_digits n h) e r }
 
-pub natural_says : (limit : ℕ) → limit ≤ 2 ^ 64 → (n : ℕ) → Good (one (IsNatural limit)) n → Says (decimal n) (one (IsNatural limit)) n
+pub natural_says : (limit : ℕ) → limit ≤ 2 ^ 64 → (n : ℕ) → IsSpelled (one (IsNatural limit)) n → Says (decimal n) (one (IsNatural limit)) n
 natural_says limit l n g =
     let below = (good_one g).is.3 in
     let h : n < 2 ^ 64 = omega arith in
@@ -78,7 +79,7 @@ integers_are = (
 
 -- ---- what spells a type
 
-array_says : (T : List Lexeme → Ty → Type 0) → ((ty : Ty) → Good T ty → Says (type_text ty) T ty) → (ty : Ty) → Good (array_of T) ty → Says (type_text ty) (array_of T) ty
+array_says : (T : List Lexeme → Ty → Type 0) → ((ty : Ty) → IsSpelled T ty → Says (type_text ty) T ty) → (ty : Ty) → IsSpelled (array_of T) ty → Says (type_text ty) (array_of T) ty
 array_says T law ty g =
     let a = good_then (good_then g).rest in
     let b = good_then (good_then a.rest).rest in
@@ -87,7 +88,7 @@ array_says T law ty g =
     (says_mark 91 refl refl (says_then a (natural_says (2 ^ 64) (omega arith) a.value a.front) (λ rest e. refl) (says_space (says_word (codes "x") refl (λ rest e. refl) (says_space
     (says_then b (law b.value b.front) (λ rest e. refl) (says_mark 93 refl refl (says_done (Array a.value b.value)))))))))
 
-flat_says : (form : FlatForm) (ty : Ty) → Good (flat_form form) ty → Says (type_text ty) (flat_form form) ty
+flat_says : (form : FlatForm) (ty : Ty) → IsSpelled (flat_form form) ty → Says (type_text ty) (flat_form form) ty
 flat_says Integer ty g = table_says type_text integer_types integers_are ty g
 flat_says Pointer ty g =
     let a = good_then (good_then g).rest in
@@ -96,27 +97,27 @@ flat_says NamedForm ty g =
     let a = good_then g in
     says_of type_text (flat_form NamedForm) (good_done a.rest) (named_text a.value) (says_last Named (local_says a.value a.front))
 
-any_flat_says : (ty : Ty) → Good (any flat_form) ty → Says (type_text ty) (any flat_form) ty
+any_flat_says : (ty : Ty) → IsSpelled (any flat_form) ty → Says (type_text ty) (any flat_form) ty
 any_flat_says ty g = let f = good_any g in says_any f.0 (flat_says f.0 ty f.1)
 
-form_says : (T : List Lexeme → Ty → Type 0) → ((ty : Ty) → Good T ty → Says (type_text ty) T ty) → (form : TypeForm) (ty : Ty) → Good (type_form T form) ty → Says (type_text ty) (type_form T form) ty
+form_says : (T : List Lexeme → Ty → Type 0) → ((ty : Ty) → IsSpelled T ty → Says (type_text ty) T ty) → (form : TypeForm) (ty : Ty) → IsSpelled (type_form T form) ty → Says (type_text ty) (type_form T form) ty
 form_says T law Flat ty g = any_flat_says ty g
 form_says T law ArrayForm ty g = array_says T law ty g
 form_says T law StructForm ty g =
     let a = good_then (good_then g).rest in
     says_of type_text (type_form T StructForm) (good_done a.rest) (struct_text a.value) (says_braced type_text T Struct a.value (all_say type_text T law a.value (good_list 125 T a.value a.front)))
 
-in_says : (depth : ℕ) (ty : Ty) → Good (type_in depth) ty → Says (type_text ty) (type_in depth) ty
+in_says : (depth : ℕ) (ty : Ty) → IsSpelled (type_in depth) ty → Says (type_text ty) (type_in depth) ty
 in_says zero ty g = any_flat_says ty g
 in_says (suc depth) ty g = let f = good_any g in says_any f.0 (form_says (type_in depth) (in_says depth) f.0 ty f.1)
 
-pub type_says : (ty : Ty) → Good type_ ty → Says (type_text ty) type_ ty
+pub type_says : (ty : Ty) → IsSpelled type_ ty → Says (type_text ty) type_ ty
 type_says = in_says nesting_limit
 
-pub result_says : (ty : Ty) → Good result_type ty → Says (type_text ty) result_type ty
+pub result_says : (ty : Ty) → IsSpelled result_type ty → Says (type_text ty) result_type ty
 result_says ty g = by (good_either type_ (one (IsWordIn ((codes "void", Void) ∷ []))) g)
   where
-    by : Good type_ ty ⊎ Good (one (IsWordIn ((codes "void", Void) ∷ []))) ty → Says (type_text ty) result_type ty
+    by : IsSpelled type_ ty ⊎ IsSpelled (one (IsWordIn ((codes "void", Void) ∷ []))) ty → Says (type_text ty) result_type ty
     by (inl h) = says_left (one (IsWordIn ((codes "void", Void) ∷ []))) (type_says ty h)
     by (inr h) = says_right type_ (table_says type_text ((codes "void", Void) ∷ []) (void_text, refl, tt) ty h)
 
@@ -148,15 +149,15 @@ in_integers w ty (inr (inr (inr (inl h)))) = subst IsSized (sym h.1) (sized_laye
 in_integers w ty (inr (inr (inr (inr (inl h))))) = subst IsSized (sym h.1) (sized_layer (Ty-F.Int 64) (IntTy 64) (rolls-Int 64) (record { some = omega arith; most = omega arith }))
 in_integers w ty (inr (inr (inr (inr (inr h))))) = absurd h
 
-flat_sized : (form : FlatForm) (ty : Ty) → Good (flat_form form) ty → IsSized ty
+flat_sized : (form : FlatForm) (ty : Ty) → IsSpelled (flat_form form) ty → IsSized ty
 flat_sized Integer ty g = let s = good_one g in in_integers s.token.bytes ty s.is.1
 flat_sized Pointer ty g = subst IsSized (sym (good_done (good_then (good_then g).rest).rest)) (sized_layer Ty-F.Ptr Ptr rolls-Ptr tt)
 flat_sized NamedForm ty g = let a = good_then g in subst IsSized (sym (good_done a.rest)) (sized_layer (Ty-F.Named a.value) (Named a.value) (rolls-Named a.value) tt)
 
-any_flat_sized : (ty : Ty) → Good (any flat_form) ty → IsSized ty
+any_flat_sized : (ty : Ty) → IsSpelled (any flat_form) ty → IsSized ty
 any_flat_sized ty g = let f = good_any g in flat_sized f.0 ty f.1
 
-form_sized : (T : List Lexeme → Ty → Type 0) (form : TypeForm) (ty : Ty) → Good (type_form T form) ty → IsSized ty
+form_sized : (T : List Lexeme → Ty → Type 0) (form : TypeForm) (ty : Ty) → IsSpelled (type_form T form) ty → IsSized ty
 form_sized T Flat ty g = any_flat_sized ty g
 form_sized T ArrayForm ty g =
     let a = good_then (good_then g).rest in
@@ -164,9 +165,9 @@ form_sized T ArrayForm ty g =
     subst IsSized (sym (good_done (good_then b.rest).rest)) (sized_layer (Ty-F.Array a.value b.value) (Array a.value b.value) (rolls-Array a.value b.value) tt)
 form_sized T StructForm ty g = let a = good_then (good_then g).rest in subst IsSized (sym (good_done a.rest)) (sized_layer (Ty-F.Struct a.value) (Struct a.value) (rolls-Struct a.value) tt)
 
-in_sized : (depth : ℕ) (ty : Ty) → Good (type_in depth) ty → IsSized ty
+in_sized : (depth : ℕ) (ty : Ty) → IsSpelled (type_in depth) ty → IsSized ty
 in_sized zero ty g = any_flat_sized ty g
 in_sized (suc depth) ty g = let f = good_any g in form_sized (type_in depth) f.0 ty f.1
 
-pub type_sized : (ty : Ty) → Good type_ ty → IsSized ty
+pub type_sized : (ty : Ty) → IsSpelled type_ ty → IsSized ty
 type_sized = in_sized nesting_limit

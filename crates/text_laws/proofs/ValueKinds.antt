@@ -8,11 +8,12 @@ use Rattle.ir_core.specs.declared.instructions.Flags.{Flags}
 use Rattle.ir_core.specs.declared.instructions.Kind.{Kind}
 use Rattle.ir_core.specs.declared.instructions.Kind.TheVariants.{Bin, ICmp, Cast, Select, Phi, Alloca, Load, Rmw, Gep}
 use Rattle.ir_core.specs.Tokens.{Lexeme}
-use Rattle.ir_core.specs.Spell.{done}
+use Rattle.ir_core.specs.Spell.{done, word}
 use Rattle.ir_core.specs.Forms.{typed, next}
 use Rattle.ir_core.specs.Instructions.{binary, wrap_flags, exact_flag, no_flags, predicates, changes, edge, ValueForm, Wraps, Divides, Mixes, Compares, Casts, Selects, Phis, Allocas, Loads, Changes, Steps, value_words, value_form, value}
 use Rattle.ir_core.specs.Text.{type_text, value_text, typed_text, local_text, bin_op_text, flags_text, pred_text, cast_text, rmw_text, order_text, word_if, align_text, atomic_text, ordering_text, edge_text, kind_text, all_led}
-use Rattle.text_laws.proofs.Good.{Good, good_then, good_done, good_many, all_behind}
+use Rattle.text_laws.specs.Spelling.{IsSpelled}
+use Rattle.text_laws.proofs.Good.{good_then, good_done, good_many, all_behind}
 use Rattle.text_laws.proofs.Back.{flat, Says, Ended, says_as, says_at, says_done, says_then, says_last, says_space, says_comma, says_mark, says_word, all_say, says_commas, led_ended}
 use Rattle.text_laws.proofs.Names.{local_says, WordsAre, table_says}
 use Rattle.text_laws.proofs.Types.{IsSized, type_says, type_sized}
@@ -20,7 +21,7 @@ use Rattle.text_laws.proofs.Values.{value_says, typed_says}
 use Rattle.text_laws.proofs.Orders.{ended_then, flag_says, flag_ended, flags_ended, wrap_says, exact_says, no_flags_says, align_ended, align_says, order_says, access_says}
 
 -- what a text spells behind a comma
-pub good_next : {X : Type 0} {S : List Lexeme → X → Type 0} {x : X} → Good (next S) x → Good S x
+pub good_next : {X : Type 0} {S : List Lexeme → X → Type 0} {x : X} → IsSpelled (next S) x → IsSpelled S x
 good_next g = (good_then g).rest
 
 -- the text of an instruction is its word and a text that is spelled behind it
@@ -36,7 +37,7 @@ behind_at {word = word} {S = S} e b = subst (Behind word S) (sym e) b
 
 -- ---- numbers
 
-binary_says : (op : BinOp) (F : List Lexeme → Flags → Type 0) → ((f : Flags) → Good F f → Says (flags_text f) F f) → (k : Kind) → Good (binary op F) k → Behind (bin_op_text op) (binary op F) k
+binary_says : (op : BinOp) (F : List Lexeme → Flags → Type 0) → ((f : Flags) → IsSpelled F f → Says (flags_text f) F f) → (k : Kind) → IsSpelled (binary op F) k → Behind (bin_op_text op) (binary op F) k
 binary_says op F law k g =
     let a = good_then g in
     let b = good_then a.rest in
@@ -53,7 +54,7 @@ binary_says op F law k g =
           (says_last (Bin op f ty c.value) (says_comma (value_says ty d.value s (good_next d.front))))))));
     })
 
-compare_says : (k : Kind) → Good (value_form Compares) k → Behind (codes "icmp") (value_form Compares) k
+compare_says : (k : Kind) → IsSpelled (value_form Compares) k → Behind (codes "icmp") (value_form Compares) k
 compare_says k g =
     let a = good_then g in
     let b = good_then a.rest in
@@ -70,7 +71,7 @@ compare_says k g =
           (says_last (ICmp a.value ty c.value) (says_comma (value_says ty d.value s (good_next d.front)))))))));
     })
 
-cast_says : (op : CastOp) (k : Kind) → Good (value_form (Casts op)) k → Behind (cast_text op) (value_form (Casts op)) k
+cast_says : (op : CastOp) (k : Kind) → IsSpelled (value_form (Casts op)) k → Behind (cast_text op) (value_form (Casts op)) k
 cast_says op k g =
     let a = good_then g in
     let b = good_then a.rest in
@@ -82,7 +83,7 @@ cast_says op k g =
       says = says_space (says_then a (typed_says a.value a.front) (λ rest e. refl) (says_space (says_word (codes "to") refl (λ rest e. refl) (says_space (says_last (Cast op a.value) (type_says c.value c.front))))));
     })
 
-select_says : (k : Kind) → Good (value_form Selects) k → Behind (codes "select") (value_form Selects) k
+select_says : (k : Kind) → IsSpelled (value_form Selects) k → Behind (codes "select") (value_form Selects) k
 select_says k g =
     let a = good_then g in
     let b = good_then a.rest in
@@ -96,7 +97,7 @@ select_says k g =
 
 -- ---- phis
 
-edge_says : (ty : Ty) → IsSized ty → (e : Edge) → Good (edge ty) e → Says (edge_text ty e) (edge ty) e
+edge_says : (ty : Ty) → IsSized ty → (e : Edge) → IsSpelled (edge ty) e → Says (edge_text ty e) (edge ty) e
 edge_says ty s e g =
     let a = good_then (good_then g).rest in
     let b = good_then a.rest in
@@ -104,7 +105,7 @@ edge_says ty s e g =
     (says_as (edge ty) (record { value = a.value; block = b.value }) (sym (flat (codes "[ ") (value_text ty a.value) (codes ", " ∷ local_text b.value ∷ codes " ]" ∷ [])))
     (says_mark 91 refl refl (says_space (says_then a (value_says ty a.value s a.front) (λ rest e. refl) (says_then b (says_comma (local_says b.value (good_next b.front))) (λ rest e. refl) (says_space (says_mark 93 refl refl (says_done (record { value = a.value; block = b.value })))))))))
 
-phi_says : (k : Kind) → Good (value_form Phis) k → Behind (codes "phi") (value_form Phis) k
+phi_says : (k : Kind) → IsSpelled (value_form Phis) k → Behind (codes "phi") (value_form Phis) k
 phi_says k g =
     let a = good_then g in
     let b = good_then a.rest in
@@ -121,7 +122,7 @@ phi_says k g =
 
 -- ---- memory
 
-alloca_says : (k : Kind) → Good (value_form Allocas) k → Behind (codes "alloca") (value_form Allocas) k
+alloca_says : (k : Kind) → IsSpelled (value_form Allocas) k → Behind (codes "alloca") (value_form Allocas) k
 alloca_says k g =
     let a = good_then g in
     let b = good_then a.rest in
@@ -132,7 +133,7 @@ alloca_says k g =
       says = says_space (says_then a (type_says a.value a.front) (align_ended b.value) (says_last (Alloca a.value) (align_says b.value b.front)));
     })
 
-load_says : (k : Kind) → Good (value_form Loads) k → Behind (codes "load") (value_form Loads) k
+load_says : (k : Kind) → IsSpelled (value_form Loads) k → Behind (codes "load") (value_form Loads) k
 load_says k g =
     let a = good_then g in
     let b = good_then a.rest in
@@ -150,7 +151,7 @@ load_says k g =
           (says_then d o.says (align_ended e.value) (says_last (Load b.value c.value d.value) (align_says e.value e.front))))));
     })
 
-change_says : (k : Kind) → Good (value_form Changes) k → Behind (codes "atomicrmw") (value_form Changes) k
+change_says : (k : Kind) → IsSpelled (value_form Changes) k → Behind (codes "atomicrmw") (value_form Changes) k
 change_says k g =
     let a = good_then g in
     let b = good_then a.rest in
@@ -170,7 +171,7 @@ inbounds_word : (b : Bool) → codes " " ++ word_if b (codes "inbounds ") ≡ wo
 inbounds_word true = refl
 inbounds_word false = refl
 
-step_says : (k : Kind) → Good (value_form Steps) k → Behind (codes "getelementptr") (value_form Steps) k
+step_says : (k : Kind) → IsSpelled (value_form Steps) k → Behind (codes "getelementptr") (value_form Steps) k
 step_says k g =
     let a = good_then g in
     let b = good_then a.rest in
@@ -204,7 +205,7 @@ form_word Loads = codes "load"
 form_word Changes = codes "atomicrmw"
 form_word Steps = codes "getelementptr"
 
-form_behind : (form : ValueForm) (k : Kind) → Good (value_form form) k → Behind (form_word form) (value_form form) k
+form_behind : (form : ValueForm) (k : Kind) → IsSpelled (value_form form) k → Behind (form_word form) (value_form form) k
 form_behind (Wraps op) k g = binary_says op wrap_flags wrap_says k g
 form_behind (Divides op) k g = binary_says op exact_flag exact_says k g
 form_behind (Mixes op) k g = binary_says op (done no_flags) no_flags_says k g
@@ -273,7 +274,7 @@ words_are = (
 )
 
 -- what gives a value
-pub value_kind_says : (k : Kind) → Good value k → Says (kind_text k) value k
+pub value_kind_says : (k : Kind) → IsSpelled value k → Says (kind_text k) value k
 value_kind_says k g =
     let a = good_then g in
     let b = form_behind a.value k a.rest in

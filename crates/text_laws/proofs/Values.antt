@@ -14,12 +14,13 @@ use Rattle.ir_core.specs.Spell.{one, IsWordIn, InTable}
 use Rattle.ir_core.specs.Forms.{IsValue, truth_words, typed, target}
 use Rattle.ir_core.specs.Text.{type_text, truth_text, signed_text, integer_text, number_text, value_text, typed_text, target_text}
 use Rattle.ir_core.proofs.Runs.{by_test, if_true, if_false}
+use Rattle.text_laws.specs.Spelling.{IsSpelled}
 use Rattle.text_laws.proofs.Rows.{Bare, bare}
 use Rattle.text_laws.proofs.Joined.{Gives, gives_word}
 use Rattle.text_laws.proofs.Lexed.{minus_lexed}
 use Rattle.text_laws.proofs.NumberTokens.{decimal_digits, plain_in_range, plain_fits, plain_kept, minus_in_range, minus_kept, small_mod}
 use Rattle.text_laws.proofs.Spelled.{shows_in}
-use Rattle.text_laws.proofs.Good.{Good, good_then, good_done, good_one}
+use Rattle.text_laws.proofs.Good.{good_then, good_done, good_one}
 use Rattle.text_laws.proofs.Back.{Says, says_as, says_at, says_then, says_last, says_space, says_word}
 use Rattle.text_laws.proofs.Names.{says_token, gives_local, gives_global, shows_local, shows_global, local_bytes, global_bytes, local_says}
 use Rattle.text_laws.proofs.Types.{gives_decimal, Width, IsSized, int_sized, type_says, type_sized}
@@ -138,7 +139,7 @@ number_small ty t n s (inr h) = truth_small t.bytes n h.1
 
 -- ---- operands
 
-pub value_says : (ty : Ty) (v : Value) → IsSized ty → Good (one (IsValue ty)) v → Says (value_text ty v) (one (IsValue ty)) v
+pub value_says : (ty : Ty) (v : Value) → IsSized ty → IsSpelled (one (IsValue ty)) v → Says (value_text ty v) (one (IsValue ty)) v
 value_says ty (IntValue n) s g = let t = good_one g in number_says ty n s (number_small ty t.token n s t.is)
 value_says ty Null s g = says_token (gives_word (codes "null") refl) (λ t e. (Null, (ap (λ (b : Bare). b.kind) e, ap (λ (b : Bare). b.bytes) e, refl), refl))
 value_says ty (Register x) s g =
@@ -150,7 +151,7 @@ value_says ty (GlobalValue x) s g =
     let b = global_bytes (record { token = t.token; fine = t.fine; is = t.is }) in
     says_token (gives_global x b) (λ u e. let r = shows_global x b u e in (GlobalValue r.0, r.1, ap GlobalValue r.2))
 
-pub typed_says : (v : Typed) → Good typed v → Says (typed_text v) typed v
+pub typed_says : (v : Typed) → IsSpelled typed v → Says (typed_text v) typed v
 typed_says v g =
     let a = good_then g in
     let b = good_then a.rest in
@@ -158,5 +159,5 @@ typed_says v g =
     (says_as typed (record { ty = a.value; value = b.value }) (sym (append_assoc (type_text a.value) (codes " ") (value_text a.value b.value)))
     (says_then a (type_says a.value a.front) (λ rest e. refl) (says_space (says_last (λ x. record { ty = a.value; value = x }) (value_says a.value b.value (type_sized a.value a.front) b.front)))))
 
-pub target_says : (b : List ℕ) → Good target b → Says (target_text b) target b
+pub target_says : (b : List ℕ) → IsSpelled target b → Says (target_text b) target b
 target_says b g = let a = good_then g in says_word (codes "label") refl (λ rest e. refl) (says_space (local_says b a.rest))

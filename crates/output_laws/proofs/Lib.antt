@@ -1,0 +1,4 @@
+pub mod Agree
+pub mod Given
+pub mod InitCalls
+pub mod Refused

@@ -1,0 +1,20 @@
+//! Laws of the modules that the optimiser gives: what holds of them where it held of the module that was taken. They take no code of the program.
+#![tactic(auto)]
+
+ghost use Rattle.std.specs.Prelude.{◌≡◌, []};
+ghost use Rattle.ir_core.specs.declared.instructions.Inst.{Inst};
+ghost use Rattle.ir_core.specs.declared.module.Module.{Module};
+ghost use Rattle.ir_core.specs.MachineOff.{machine_off};
+ghost use Rattle.ir_core.specs.NameRefusals.{name_refusals};
+ghost use Rattle.formed_parts.specs.Edits.{module_edited};
+ghost use Rattle.output_laws.specs.Names.{KeepsNames, KeepsRules};
+
+/// Nothing is refused of names and types where each instruction is replaced by one that gives the same names and keeps the rules of its kind.
+pub fn edits_keep_names()
+    ensures { (edit : Inst → Inst) → KeepsNames edit → (m : Module) → KeepsRules edit m → name_refusals m ≡ [] → name_refusals (module_edited edit m) ≡ [] }
+{}
+
+/// Nothing is refused of the names and types of a module whose unused state machine is switched off, where nothing was before.
+pub fn off_keeps_names()
+    ensures { (m : Module) → name_refusals m ≡ [] → name_refusals (machine_off m) ≡ [] }
+{}
