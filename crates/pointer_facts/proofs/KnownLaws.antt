@@ -105,7 +105,6 @@ module _ (m : Module) (May : Spot → Type 0) where
   register_known at x y e h = let r = number_of_node m at x y e in known_there (Register r.0) y (sym r.2) (at, x, r.1, h)
 
   module _ (copied : (a b : Spot) → CopyHop m a b → May a → May b) (kept : (a b : Spot) → MemoryHop m a b → May a → May b) where
-
     -- ---- hops of an instruction
 
     module _ (at : ℕ) (i : Inst) (stands : StandsIn m at i) (h : Hop) (known : IsKnown h.from) where

@@ -98,13 +98,20 @@ module _ (m : Module) where
       inr (f, place, p, is, region_is m f both.0, grind (arith, nat_tests, low))
   given_from FromElsewhere s f place p is e =
       let both = both_true (is_ptr p.ty) (is_kernel f || (is_region m f && not (nat_lt place 2))) e in
-      inl (f, place, p, is, both.0, elim (either_true (is_kernel f) (is_region m f && not (nat_lt place 2)) both.1) [
-        | inl kernel ↦ inl kernel
-        | inr other ↦
-            let parts = both_true (is_region m f) (not (nat_lt place 2)) other in
-            let high = parts.1 in
-            inr (region_is m f parts.0, grind (arith, nat_tests, high))
-      ])
+      inl (
+        f,
+        place,
+        p,
+        is,
+        both.0,
+        elim (either_true (is_kernel f) (is_region m f && not (nat_lt place 2)) both.1) [
+          | inl kernel ↦ inl kernel
+          | inr other ↦
+              let parts = both_true (is_region m f) (not (nat_lt place 2)) other in
+              let high = parts.1 in
+              inr (region_is m f parts.0, grind (arith, nat_tests, high))
+        ],
+      )
 
   is_address : (op : CastOp) → makes_address op ≡ true → op ≡ IntToPtr
   is_address IntToPtr e = refl
@@ -147,6 +154,7 @@ module _ (m : Module) where
           let P : ℕ → Type 0 = λ k. Among (param_root m origin at (is_kernel f) (is_region m f) k g.item) x in
           let e = root_is (is_given origin (is_kernel f) (is_region m f) g.place g.item) (register_node m at g.item.name) x (subst P same g.given) in
           record { at = at; name = g.item.name; node = e.1; from = given_from origin (register at g.item.name) f g.place g.item (there, g.there, refl) e.0 }
+
       from_inst : (at : ℕ) (f : Function) → slice_get m.functions at ≡ Some f → Stands (flat_map (inst_roots m origin at) (insts_of f)) x → ComesFrom origin x
       from_inst at f there b =
           let w = within_joined (inst_roots m origin at) (insts_of f) x b in

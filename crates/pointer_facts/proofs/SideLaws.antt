@@ -29,6 +29,7 @@ adds_both One Other Both old mid new first second is = record { same = λ h. (fo
     | inl t ↦ elim ((first.same h).0 t) [ inl o ↦ inl o | inr k ↦ inr ((is h).1 (inl k)) ]
     | inr k ↦ inr ((is h).1 (inr k))
   ]
+
   stands : (h : Hop) → Stands old h ⊎ Both h → Stands new h
   stands h (inl o) = (second.same h).1 (inl ((first.same h).1 (inl o)))
   stands h (inr b) = elim ((is h).0 b) [ inl k ↦ (second.same h).1 (inl ((first.same h).1 (inr k))) | inr k ↦ (second.same h).1 (inr k) ]
@@ -66,9 +67,11 @@ module _ (m : Module) (side : Node) where
     adds_on on e = record { same = λ h. (λ s. found h ((all.same h).0 s), λ k. (all.same h).1 (stands h k)) } where
       all : AddsHops (Stands (hops_on side at)) old new
       all = adds_behind old (hops_on side at) new e
+
       found : (h : Hop) → Stands old h ⊎ Stands (hops_on side at) h → Stands old h ⊎ IsHopAt m side at h
       found h (inl o) = inl o
       found h (inr k) = inr (on, k)
+
       stands : (h : Hop) → Stands old h ⊎ IsHopAt m side at h → Stands old h ⊎ Stands (hops_on side at) h
       stands h (inl o) = inl o
       stands h (inr k) = inr k.1

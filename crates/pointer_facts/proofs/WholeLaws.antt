@@ -185,6 +185,7 @@ module _ (m : Module) where
     chain_reached roots Hops registers leads from s x node root chain = leads_least Hops Reached next from s (x, node, (x, root, leads_itself (HopsOver hops) x)) chain where
       Reached : Spot → Type 0
       Reached t = (y : Node) × (node_at m t ≡ Some y) × IsReachedBy hops roots y
+
       next : (a b : Spot) → Reached a → Hops a b → Reached b
       next a b r h =
           let to = has_node m b (registers a b h) in

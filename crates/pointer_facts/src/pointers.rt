@@ -137,11 +137,7 @@ fn is_marked(numbering: &Numbering, row: &List<bool>, function: usize, name: &Na
 impl<'m> Pointers<'m> {
     /// The pointers of the module: two searches. `OutOfMemory` where no memory was left, or where more registers than 2^64-1 are to be
     /// counted.
-    pub fn of(
-        alloc: Global,
-        m: &'m Checked,
-        calls: &Calls,
-    ) -> Result<Pointers<'m>, OutOfMemory>
+    pub fn of(alloc: Global, m: &'m Checked, calls: &Calls) -> Result<Pointers<'m>, OutOfMemory>
         requires { AreCalls m.now calls.now }
         ensures { IfOk result (λ p. p ≡ m.now) }
     {

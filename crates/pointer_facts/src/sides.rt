@@ -36,12 +36,7 @@ fn add_function(hops: &mut List<Hop>, side: Node, function: usize) -> Result<(),
 }
 
 /// Adds the hops of all functions on a side.
-fn add_side(
-    hops: &mut List<Hop>,
-    m: &Module,
-    calls: &Calls,
-    side: Node,
-) -> Result<(), OutOfMemory>
+fn add_side(hops: &mut List<Hop>, m: &Module, calls: &Calls, side: Node) -> Result<(), OutOfMemory>
     requires calls { AreCalls m.now calls.now }
     requires side { IsSide m.now side }
     ensures { OnOk result (AddsHops (IsHopOnSide m.now side) hops.old hops.new) }
@@ -68,11 +63,7 @@ fn add_kernels(hops: &mut List<Hop>, m: &Module, calls: &Calls) -> Result<(), Ou
 }
 
 /// Adds the hops through memory, of the main side of each kernel and of the region side.
-pub(crate) fn add_sides(
-    hops: &mut List<Hop>,
-    m: &Module,
-    calls: &Calls,
-) -> Result<(), OutOfMemory>
+pub(crate) fn add_sides(hops: &mut List<Hop>, m: &Module, calls: &Calls) -> Result<(), OutOfMemory>
     requires { AreCalls m.now calls.now }
     ensures { OnOk result (AddsHops (IsSideHop m.now) hops.old hops.new) }
 {

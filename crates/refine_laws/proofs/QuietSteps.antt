@@ -175,7 +175,7 @@ module _ (m : Module) (t : ThreadState) (user : is_worker t ≡ false) (f : Fram
   quiet_call x operands _ q = tt
 
   quiet_enters : (at : Place) (r : Registers) → QuietStep (enters t f rest at r)
-  quiet_enters at r = (user, h)
+  quiet_enters at r = (user, (refl, h.1))
 
   quiet_block : (o : Option ℕ) → QuietStep (to_block m t f rest o)
   quiet_block None = tt
