@@ -1,5 +1,5 @@
 -- Parts stay as they must be where each instruction is replaced by one that may stand where it stood.
-use Rattle.std.proofs.Common.{◌≡◌, List, [], ◌∷◌, map, refl, ap, ◌∙◌}
+use Rattle.std.proofs.Common.{List, [], ◌∷◌, map, refl, sym, ap, ◌∙◌}
 use Rattle.std.proofs.lemmas.List.{map-append}
 use Rattle.std.proofs.lemmas.List.Elements.{All-map}
 use Rattle.ir_core.specs.declared.instructions.Inst.{Inst}
@@ -7,6 +7,7 @@ use Rattle.ir_core.specs.declared.module.Module.{Module}
 use Rattle.ir_core.specs.declared.module.Function.{Function}
 use Rattle.ir_core.specs.declared.module.Block.{Block}
 use Rattle.text_laws.specs.Parts.{FormedInst, FormedInsts, FormedBlock, FormedFunction, FormedParts}
+use Rattle.text_laws.proofs.Lines.{none_same}
 use Rattle.formed_parts.specs.Edits.{block_edited, function_edited, module_edited, KeepsInsts}
 
 pub insts_edited : (edit : Inst → Inst) → KeepsInsts edit → (is : List Inst) → FormedInsts is → FormedInsts (map edit is)
@@ -21,10 +22,6 @@ insts_edited edit k is p = record {
 pub block_keeps : (edit : Inst → Inst) → KeepsInsts edit → (b : Block) → FormedBlock b → FormedBlock (block_edited edit b)
 block_keeps edit k b p = record { name = p.name; insts = insts_edited edit k b.insts p.insts }
 
-map_none : {X Y : Type 0} (f : X → Y) (xs : List X) → map f xs ≡ [] → xs ≡ []
-map_none f [] e = refl
-map_none {X} {Y} f (x ∷ xs) e = absurd (let k : ◌≡◌ {A = List Y} (f x ∷ map f xs) [] = e in cc)
-
 pub function_keeps : (edit : Inst → Inst) → KeepsInsts edit → (f : Function) → FormedFunction f → FormedFunction (function_edited edit f)
 function_keeps edit k f p = record {
   words = p.words;
@@ -33,7 +30,7 @@ function_keeps edit k f p = record {
   params = p.params;
   groups = p.groups;
   blocks = All-map FormedBlock (block_edited edit) f.blocks (λ n d l. block_keeps edit k _ (p.blocks n d l));
-  numbered = λ e. p.numbered (map_none (block_edited edit) f.blocks e);
+  numbered = λ e. p.numbered (none_same (block_edited edit) [] f.blocks (sym e) refl);
 }
 
 pub edits_keep_parts : (edit : Inst → Inst) → KeepsInsts edit → (m : Module) → FormedParts m → FormedParts (module_edited edit m)

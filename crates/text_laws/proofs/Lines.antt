@@ -46,7 +46,7 @@ all_same {X} {Y} f P law (x ∷ xs) (y ∷ ys) e h =
 each_same : {X Y : Type 0} (f : X → Y) (P : X → Type 0) → ((x y : X) → f x ≡ f y → P y → P x) → (xs ys : List X) → map f xs ≡ map f ys → All P ys → All P xs
 each_same f P law xs ys e h = All-from_recursion P xs (all_same f P law xs ys e (recursion_from_All P ys h))
 
-none_same : {X Y : Type 0} (f : X → Y) (xs ys : List X) → map f xs ≡ map f ys → xs ≡ [] → ys ≡ []
+pub none_same : {X Y : Type 0} (f : X → Y) (xs ys : List X) → map f xs ≡ map f ys → xs ≡ [] → ys ≡ []
 none_same f xs [] e n = refl
 none_same {X} {Y} f xs (y ∷ ys) e n = absurd (let k : ◌≡◌ {A = List Y} [] (f y ∷ map f ys) = ap (map f) (sym n) ∙ e in cc)
 
