@@ -9,7 +9,7 @@ use ir_tables::Indexed;
 use register_numbers::Numbering;
 
 /// The place of the defined function that is called.
-fn defined_place(m: &Indexed, callee: &Value) -> Option<usize>
+pub fn defined_place(m: &Indexed, callee: &Value) -> Option<usize>
     ensures { result ≡ spec.defined_place m.now callee.now }
 {
     let Value::Global(name) = callee else {

@@ -9,6 +9,7 @@ mod regions;
 mod roots;
 mod search;
 
+pub use calls::defined_place;
 pub use hops::{Hop, hops_in};
 pub use nodes::{Node, register_node, result_node, value_node};
 pub use regions::{called_by_wrappers, is_region};
