@@ -6,6 +6,8 @@ ghost use Rattle.ir_core.specs.declared.instructions.Inst.{Inst};
 ghost use Rattle.ir_core.specs.declared.module.Module.{Module};
 ghost use Rattle.ir_core.specs.MachineOff.{machine_off};
 ghost use Rattle.ir_core.specs.NameRefusals.{name_refusals};
+ghost use Rattle.shapes.specs.Clauses.{clause_refusals};
+ghost use Rattle.shapes.specs.Limits.{limit_refusals};
 ghost use Rattle.formed_parts.specs.Edits.{module_edited};
 ghost use Rattle.output_laws.specs.Names.{KeepsNames, KeepsRules};
 
@@ -17,4 +19,14 @@ pub fn edits_keep_names()
 /// Nothing is refused of the names and types of a module whose unused state machine is switched off, where nothing was before.
 pub fn off_keeps_names()
     ensures { (m : Module) → name_refusals m ≡ [] → name_refusals (machine_off m) ≡ [] }
+{}
+
+/// The same is refused of the clauses of a module whose unused state machine is switched off as before.
+pub fn off_keeps_clauses()
+    ensures { (m : Module) → clause_refusals (machine_off m) ≡ clause_refusals m }
+{}
+
+/// The same is refused of how large a module is whose unused state machine is switched off as before.
+pub fn off_keeps_limits()
+    ensures { (m : Module) → limit_refusals (machine_off m) ≡ limit_refusals m }
 {}
