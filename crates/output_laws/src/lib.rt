@@ -1,11 +1,13 @@
 //! Laws of the modules that the optimiser gives: what holds of them where it held of the module that was taken. They take no code of the program.
 #![tactic(auto)]
 
-ghost use Rattle.std.specs.Prelude.{◌≡◌, []};
+ghost use Rattle.std.specs.Prelude.{◌≡◌, ◌↔◌, []};
 ghost use Rattle.ir_core.specs.declared.instructions.Inst.{Inst};
 ghost use Rattle.ir_core.specs.declared.module.Module.{Module};
 ghost use Rattle.ir_core.specs.MachineOff.{machine_off};
 ghost use Rattle.ir_core.specs.NameRefusals.{name_refusals};
+ghost use Rattle.ir_core.specs.declared.refusal.Refusal.{Refusal};
+ghost use Rattle.shapes.specs.CallPaths.{IsNested};
 ghost use Rattle.shapes.specs.Clauses.{clause_refusals};
 ghost use Rattle.shapes.specs.Limits.{limit_refusals};
 ghost use Rattle.formed_parts.specs.Edits.{module_edited};
@@ -29,4 +31,9 @@ pub fn off_keeps_clauses()
 /// The same is refused of how large a module is whose unused state machine is switched off as before.
 pub fn off_keeps_limits()
     ensures { (m : Module) → limit_refusals (machine_off m) ≡ limit_refusals m }
+{}
+
+/// The same forks stand on paths from a region in a module whose unused state machine is switched off as before.
+pub fn off_keeps_nested()
+    ensures { (m : Module) → (r : Refusal) → IsNested (machine_off m) r ↔ IsNested m r }
 {}
