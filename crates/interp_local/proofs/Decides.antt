@@ -16,7 +16,8 @@ use Rattle.ir_core.specs.declared.module.Function.{Function}
 use Rattle.ir_core.specs.declared.module.Param.{Param}
 use Rattle.ir_core.specs.declared.module.Block.{Block}
 use Rattle.ir_core.specs.declared.rtl.Rtl.{Rtl}
-use Rattle.ir_core.specs.declared.rtl.Rtl.TheVariants.{TargetInit, TargetDeinit}
+use Rattle.ir_core.specs.declared.rtl.Rtl.TheVariants.{TargetInit, TargetDeinit, Parallel, AllocShared, FreeShared, GetSharedVariables, Barrier as RegionBarrier, GlobalThreadNum, ThreadNum, NumThreads, Level, ParallelLevel, InParallel, IsSpmdExecMode, ForStaticInit, ForStaticFini, Print, KernelParallel, KernelEndParallel, SpmdBarrier, GenericBarrier, HardwareThreadId}
+use Rattle.mem_model.specs.declared.step.Barrier.TheVariants.{Explicit}
 use Rattle.ir_core.specs.FirstForm.{is_scalar, is_width}
 use Rattle.ir_core.specs.Layout.{Size, Offset}
 use Rattle.mem_model.specs.Memory.{block_limit}
@@ -28,15 +29,15 @@ use Rattle.mem_model.specs.declared.step.Trap.{Trap}
 use Rattle.mem_model.specs.declared.step.Trap.TheVariants.{Unreachable, TooLarge}
 use Rattle.mem_model.specs.Eval.{Eval, compared}
 use Rattle.mem_model.specs.Thread.{Frame, ThreadState, where_is}
-use Rattle.mem_model.specs.Values.{cell_of, width_of, value_word, is_word_of, of_type, operand, and_then, converted, path_of}
-use Rattle.mem_model.specs.Entries.{is_worker, runs_loop}
+use Rattle.mem_model.specs.Values.{cell_of, width_of, value_word, is_word_of, of_type, operand, and_then, operand_words, converted, path_of}
+use Rattle.mem_model.specs.Entries.{is_worker, runs_loop, next_known, next_entry}
 use Rattle.mem_model.specs.declared.phase.LoopPoint.TheVariants.{Sleeps}
 use Rattle.mem_model.specs.declared.phase.Phase.TheVariants.{Loops}
-use Rattle.mem_model.specs.Next.{NextStep, Local, Trapped, goes_on, with_found, with_number, with_pointer, with_result, loads, stores, allocates, case_for, to_block, to_label, goes_in, entry_of, entry_or, Callee, CallsEntry, CallsFunction, CallsOther, with_body, defined_as, defined_at, callee_of, next_call, next_kind}
+use Rattle.mem_model.specs.Next.{NextStep, Local, Pending, Arrives, Trapped, goes_on, goes_past, with_found, with_number, with_pointer, with_result, loads, stores, allocates, case_for, to_block, to_label, goes_in, entry_of, entry_or, Callee, CallsEntry, CallsFunction, CallsOther, with_body, defined_as, defined_at, callee_of, next_call, next_kind}
 use Rattle.interp_local.specs.declared.actions.Action.{Action}
 use Rattle.interp_local.specs.declared.actions.Action.TheVariants.{Loads, Stores, Allocates}
 use Rattle.interp_local.specs.Operands.{as_number, as_pointer, cell, or_unreachable}
-use Rattle.interp_local.specs.Actions.{gives, call_action, jump, block_action, arguments, action_of, decided}
+use Rattle.interp_local.specs.Actions.{gives, words_given, known_action, entry_action, call_action, jump, block_action, arguments, action_of, decided}
 use Rattle.interp_local.specs.Steps.{IsRun, IsServed}
 
 -- ---- a function with blocks that is called is the one at its place
@@ -147,19 +148,58 @@ module _ (m : Module) (t : ThreadState) (f : Frame) (rest : List Frame) (x : Opt
   jump_is : (to : Name) → D (jump m f.code.at.function to) ≡ to_label m t f rest to
   jump_is to = jump_by (place_in (labels m f.code.at.function) to)
 
-  call_by : (c : Callee) → IsRun args c → ((k : ℕ) (params : List Param) → c ≡ CallsFunction k params → defined_at m (Some k) ≡ CallsFunction k params) → D (call_action t.answers.init c) ≡ next_call m t f rest x args c
-  call_by (CallsEntry TargetInit) is h = sym (begins (is_worker t) (runs_loop args) is)
+  meets_by : (b : Bool) → D (Ok (if b then Action.Passes else Action.Arrives Explicit)) ≡ (if b then Local (goes_past t f rest) else Pending (Arrives Explicit None))
+  meets_by true = refl
+  meets_by false = refl
+
+  -- one operand, a pointer, says where the address of the capture area is put
+  shares_by : (words : List Word) → D (known_action t.own t.answers GetSharedVariables (words_given words)) ≡ next_known t f rest x GetSharedVariables words
+  shares_by [] = refl
+  shares_by (Address p ∷ []) = refl
+  shares_by (Int n ∷ []) = refl
+  shares_by (Address p ∷ b ∷ []) = refl
+  shares_by (Int n ∷ b ∷ []) = refl
+  shares_by (Address p ∷ b ∷ c ∷ more) = refl
+  shares_by (Int n ∷ b ∷ c ∷ more) = refl
+
+  known_by : (r : Rtl) → ((words : List Word) → D (known_action t.own t.answers r (words_given words)) ≡ next_known t f rest x r words) → D (and_then (operand_words m f.code.registers args) (λ words. known_action t.own t.answers r (words_given words))) ≡ with_found (operand_words m f.code.registers args) (next_known t f rest x r)
+  known_by r h = d_then (operand_words m f.code.registers args) (λ words. known_action t.own t.answers r (words_given words)) (next_known t f rest x r) h
+
+  entry_by : (r : Rtl) → IsRun args (CallsEntry r) → D (entry_action m f.code.registers t.own t.answers args r) ≡ next_entry m t f rest x args r
+  entry_by TargetInit is = sym (begins (is_worker t) (runs_loop args) is)
     where
       begins : (a b : Bool) → b ≡ false → (if a && b then Local (goes_in t f rest (Loops Sleeps)) else Local (goes_on t f rest x (Int t.answers.init))) ≡ Local (goes_on t f rest x (Int t.answers.init))
       begins a true e = let g : ⊥ = cc in absurd g
       begins true false e = refl
       begins false false e = refl
-  call_by (CallsEntry TargetDeinit) is h = refl
-  call_by (CallsEntry r) is h = absurd is
+  entry_by TargetDeinit is = refl
+  entry_by Parallel is = absurd is
+  entry_by AllocShared is = absurd is
+  entry_by FreeShared is = absurd is
+  entry_by ForStaticInit is = absurd is
+  entry_by Print is = absurd is
+  entry_by KernelParallel is = absurd is
+  entry_by GetSharedVariables is = known_by GetSharedVariables shares_by
+  entry_by RegionBarrier is = known_by RegionBarrier (λ words. meets_by (t.answers.level == 0))
+  entry_by GlobalThreadNum is = known_by GlobalThreadNum (λ words. refl)
+  entry_by ThreadNum is = known_by ThreadNum (λ words. refl)
+  entry_by NumThreads is = known_by NumThreads (λ words. refl)
+  entry_by Level is = known_by Level (λ words. refl)
+  entry_by ParallelLevel is = known_by ParallelLevel (λ words. refl)
+  entry_by InParallel is = known_by InParallel (λ words. refl)
+  entry_by IsSpmdExecMode is = known_by IsSpmdExecMode (λ words. refl)
+  entry_by ForStaticFini is = known_by ForStaticFini (λ words. refl)
+  entry_by KernelEndParallel is = known_by KernelEndParallel (λ words. refl)
+  entry_by SpmdBarrier is = known_by SpmdBarrier (λ words. refl)
+  entry_by GenericBarrier is = known_by GenericBarrier (λ words. refl)
+  entry_by HardwareThreadId is = known_by HardwareThreadId (λ words. refl)
+
+  call_by : (c : Callee) → IsRun args c → ((k : ℕ) (params : List Param) → c ≡ CallsFunction k params → defined_at m (Some k) ≡ CallsFunction k params) → D (call_action m f.code.registers t.own t.answers args c) ≡ next_call m t f rest x args c
+  call_by (CallsEntry r) is h = entry_by r is
   call_by CallsOther is h = refl
   call_by (CallsFunction k params) is h = ap (next_call m t f rest x args) (h k params refl)
 
-pub action_is : (m : Module) (t : ThreadState) (f : Frame) (rest : List Frame) (x : Option Name) (k : Kind) → IsServed m k → decided m t f rest x (arguments k) (action_of m f.code.at.function f.code.registers t.answers.init k) ≡ next_kind m t f rest x k
+pub action_is : (m : Module) (t : ThreadState) (f : Frame) (rest : List Frame) (x : Option Name) (k : Kind) → IsServed m k → decided m t f rest x (arguments k) (action_of m f.code.at.function f.code.registers t.own t.answers k) ≡ next_kind m t f rest x k
 action_is m t f rest x (Bin op flags ty a b) s =
     g_number m t f rest x [] (operand m f.code.registers ty a) _ _ (λ i. g_number m t f rest x [] (operand m f.code.registers ty b) _ _ (λ j. g_then m t f rest x [] (Eval op flags (width_of ty) i j) _ _ (λ n. refl)))
 action_is m t f rest x (ICmp pred ty a b) s =

@@ -61,27 +61,24 @@ put_length (suc n) (w ∷ ws) (v ∷ vs) = ap suc (put_length n ws vs)
 abbrev Before : List Word → Result (List Word) Trap → Result (List Word) Trap
 Before front r = and_then r (λ words. Ok (front ++ words))
 
--- what a loop that binds words knows
-pub record Binds (m : Module) (s : ThreadData) (args : List Typed) (params : ℕ) (old values : List (Option Word)) (n at : ℕ) : Type 0 where
+-- what a loop over operands knows that has come to a place of them: the words of those before it
+pub record Reads (m : Module) (s : ThreadData) (args : List Typed) (n : ℕ) : Type 0 where
   pub front : List Word
   pub count : length front ≡ n
-  pub place : at ≡ n
   pub words : Before front (operand_words m (registers m s) (drop n args)) ≡ operand_words m (registers m s) args
-  pub values_are : values ≡ put_words params front old
 
-pub binds_first : (m : Module) (s : ThreadData) (args : List Typed) (params : ℕ) (old : List (Option Word)) → Binds m s args params old old 0 0
-binds_first m s args params old = record { front = []; count = refl; place = refl; words = same (operand_words m (registers m s) args); values_are = refl }
+pub reads_first : (m : Module) (s : ThreadData) (args : List Typed) → Reads m s args 0
+reads_first m s args = record { front = []; count = refl; words = same (operand_words m (registers m s) args) }
   where
     same : (r : Result (List Word) Trap) → Before [] r ≡ r
     same (Ok words) = refl
     same (Err e) = refl
 
-module _ (m : Module) (s : ThreadData) (args : List Typed) (params : ℕ) (old values : List (Option Word)) (n at : ℕ) (b : Binds m s args params old values n at) where
-  pub bound_all : n ≡ length args → AreBound {U = Unit {0}} (operand_words m (registers m s) args) params old values (Ok tt)
-  bound_all end =
+module _ (m : Module) (s : ThreadData) (args : List Typed) (n : ℕ) (b : Reads m s args n) where
+  pub reads_all : n ≡ length args → operand_words m (registers m s) args ≡ Ok b.front
+  reads_all end =
       let none : drop n args ≡ [] = ap (λ k. drop k args) end ∙ drop_all args in
-      let all : operand_words m (registers m s) args ≡ Ok (b.front ++ []) = sym b.words ∙ ap (λ vs. Before b.front (operand_words m (registers m s) vs)) none in
-      subst (λ r. AreBound {U = Unit {0}} r params old values (Ok tt)) (sym all) (b.values_are ∙ ap (λ ws. put_words params ws old) (sym (nothing b.front)))
+      sym b.words ∙ ap (λ vs. Before b.front (operand_words m (registers m s) vs)) none ∙ ap Ok (nothing b.front)
     where
       drop_all : (xs : List Typed) → drop (length xs) xs ≡ []
       drop_all [] = refl
@@ -92,16 +89,11 @@ module _ (m : Module) (s : ThreadData) (args : List Typed) (params : ℕ) (old v
       nothing (x ∷ xs) = ap (λ ys. x ∷ ys) (nothing xs)
 
   module _ (v : Typed) (there : slice_get args n ≡ Some v) where
-    abbrev More : List Word → Result (List Word) Trap
-    More front = Before front (operand_words m (registers m s) (v ∷ drop (n + 1) args))
-
-    here : More b.front ≡ operand_words m (registers m s) args
+    here : Before b.front (operand_words m (registers m s) (v ∷ drop (n + 1) args)) ≡ operand_words m (registers m s) args
     here = ap (λ vs. Before b.front (operand_words m (registers m s) vs)) (sym (drop_get args n v there)) ∙ b.words
 
-    pub bound_trap : (e : Trap) (result : Result (Unit {0}) Trap) → value_word m (registers m s) v.value ≡ Err e → result ≡ Err e → AreBound (operand_words m (registers m s) args) params old values result
-    bound_trap e result trap result_is =
-        let all : operand_words m (registers m s) args ≡ Err e = sym here ∙ ap (λ w. Before b.front (and_then w (λ word. and_then (operand_words m (registers m s) (drop (n + 1) args)) (λ words. Ok (word ∷ words))))) trap in
-        subst (λ x. AreBound {U = Unit {0}} (operand_words m (registers m s) args) params old values x) (sym result_is) (subst (λ r. AreBound {U = Unit {0}} r params old values (Err e)) (sym all) refl)
+    pub reads_trap : (e : Trap) → value_word m (registers m s) v.value ≡ Err e → operand_words m (registers m s) args ≡ Err e
+    reads_trap e trap = sym here ∙ ap (λ w. Before b.front (and_then w (λ word. and_then (operand_words m (registers m s) (drop (n + 1) args)) (λ words. Ok (word ∷ words))))) trap
 
     one : (r : Result (List Word) Trap) (word : Word) → Before (b.front ++ word ∷ []) r ≡ Before b.front (and_then r (λ words. Ok (word ∷ words)))
     one (Ok words) word = ap Ok (append_assoc b.front (word ∷ []) words)
@@ -116,12 +108,42 @@ module _ (m : Module) (s : ThreadData) (args : List Typed) (params : ℕ) (old v
     count_more : (word : Word) → length (b.front ++ word ∷ []) ≡ n + 1
     count_more word = let a = length-append b.front (word ∷ []) in let same = b.count in omega arith
 
-    pub binds_more : (word : Word) (new : List (Option Word)) → value_word m (registers m s) v.value ≡ Ok word → new ≡ put_words params (b.front ++ word ∷ []) old → Binds m s args params old new (n + 1) (at + 1)
+    pub reads_more : (word : Word) → value_word m (registers m s) v.value ≡ Ok word → Reads m s args (n + 1)
+    reads_more word e = record { front = b.front ++ word ∷ []; count = count_more word; words = words_more word e }
+
+-- with the words that are known then
+pub front_first : (m : Module) (s : ThreadData) (args : List Typed) → (read : Reads m s args 0) × ([] ≡ read.front)
+unfolding reads_first
+front_first m s args = (reads_first m s args, refl)
+
+pub front_more : (m : Module) (s : ThreadData) (args : List Typed) (n : ℕ) (b : Reads m s args n) (v : Typed) → slice_get args n ≡ Some v → (word : Word) → value_word m (registers m s) v.value ≡ Ok word → (read : Reads m s args (n + 1)) × (b.front ++ word ∷ [] ≡ read.front)
+unfolding reads_more
+front_more m s args n b v there word e = (reads_more m s args n b v there word e, refl)
+
+-- what a loop that binds words knows
+pub record Binds (m : Module) (s : ThreadData) (args : List Typed) (params : ℕ) (old values : List (Option Word)) (n at : ℕ) : Type 0 where
+  pub read : Reads m s args n
+  pub place : at ≡ n
+  pub values_are : values ≡ put_words params read.front old
+
+pub binds_first : (m : Module) (s : ThreadData) (args : List Typed) (params : ℕ) (old : List (Option Word)) → Binds m s args params old old 0 0
+unfolding reads_first
+binds_first m s args params old = record { read = reads_first m s args; place = refl; values_are = refl }
+
+module _ (m : Module) (s : ThreadData) (args : List Typed) (params : ℕ) (old values : List (Option Word)) (n at : ℕ) (b : Binds m s args params old values n at) where
+  pub bound_all : n ≡ length args → AreBound {U = Unit {0}} (operand_words m (registers m s) args) params old values (Ok tt)
+  bound_all end = subst (λ r. AreBound {U = Unit {0}} r params old values (Ok tt)) (sym (reads_all m s args n b.read end)) b.values_are
+
+  module _ (v : Typed) (there : slice_get args n ≡ Some v) where
+    pub bound_trap : (e : Trap) (result : Result (Unit {0}) Trap) → value_word m (registers m s) v.value ≡ Err e → result ≡ Err e → AreBound (operand_words m (registers m s) args) params old values result
+    bound_trap e result trap result_is =
+        subst (λ x. AreBound {U = Unit {0}} (operand_words m (registers m s) args) params old values x) (sym result_is) (subst (λ r. AreBound {U = Unit {0}} r params old values (Err e)) (sym (reads_trap m s args n b.read v there e trap)) refl)
+
+    pub binds_more : (word : Word) (new : List (Option Word)) → value_word m (registers m s) v.value ≡ Ok word → new ≡ put_words params (b.read.front ++ word ∷ []) old → Binds m s args params old new (n + 1) (at + 1)
+    unfolding reads_more
     binds_more word new e is = record {
-      front = b.front ++ word ∷ [];
-      count = count_more word;
+      read = reads_more m s args n b.read v there word e;
       place = let same = b.place in omega arith;
-      words = words_more word e;
       values_are = is;
     }
 

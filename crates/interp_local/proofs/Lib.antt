@@ -1,12 +1,13 @@
+pub mod Begins
 pub mod Branches
 pub mod Decides
 pub mod Elements
 pub mod Entered
+pub mod EntryNames
 pub mod Jumps
 pub mod Looks
 pub mod Moved
 pub mod Nexts
 pub mod Results
 pub mod Returned
-pub mod Begins
-pub mod EntryNames
+pub mod Shares

@@ -5,9 +5,12 @@ use Rattle.std.proofs.lemmas.List.{length-reverse}
 use Rattle.std.proofs.lemmas.Bool.Decides.{nat_tests}
 use Rattle.ir_core.specs.declared.instructions.Kind.{Kind}
 use Rattle.ir_core.specs.declared.instructions.Kind.TheVariants.{Bin, ICmp, Cast, Select, Phi, Alloca, Load as LoadInst, Store as StoreInst, Rmw, Gep, Fence, Call, Br, CondBr, Switch, Ret, Unreachable as UnreachableInst}
+use Rattle.ir_core.specs.declared.instructions.Typed.{Typed}
 use Rattle.ir_core.specs.declared.instructions.Inst.{Inst}
 use Rattle.ir_core.specs.declared.module.Module.{Module}
-use Rattle.ir_core.specs.declared.rtl.Rtl.TheVariants.{TargetInit, TargetDeinit}
+use Rattle.ir_core.specs.declared.rtl.Rtl.TheVariants.{TargetInit, TargetDeinit, GetSharedVariables, Barrier as RegionBarrier, GlobalThreadNum, ThreadNum, NumThreads, Level, ParallelLevel, InParallel, IsSpmdExecMode, ForStaticFini, KernelEndParallel, SpmdBarrier, GenericBarrier, HardwareThreadId}
+use Rattle.mem_model.specs.declared.step.Barrier.TheVariants.{Explicit}
+use Rattle.mem_model.specs.declared.memory.Word.TheVariants.{Int, Ptr as Address}
 use Rattle.ir_core.specs.declared.answers.Or.{Or}
 use Rattle.ir_core.specs.declared.answers.Or.TheVariants.{Refused, Memory as WantOfMemory}
 use Rattle.ir_core.specs.Layout.{Size}
@@ -16,19 +19,22 @@ use Rattle.ir_core.specs.Places.{Name, inst_at, labels, place_in}
 use Rattle.mem_model.specs.declared.memory.Word.{Word}
 use Rattle.mem_model.specs.declared.step.Trap.{Trap}
 use Rattle.mem_model.specs.declared.step.Trap.TheVariants.{Unreachable, TooLarge}
-use Rattle.mem_model.specs.Thread.{Frame, Registers, ThreadState}
-use Rattle.mem_model.specs.Values.{width_of, value_word, operand, and_then}
+use Rattle.mem_model.specs.Thread.{Frame, Registers, Answers, ThreadState}
+use Rattle.mem_model.specs.Values.{width_of, value_word, operand, and_then, operand_words}
 use Rattle.mem_model.specs.Next.{NextStep, Trapped, Callee, CallsEntry, CallsFunction, CallsOther, callee_of, next_inst, next_in, next_frames, Next}
 use Rattle.thread_state.specs.declared.state.Frame.{Frame as FrameData}
 use Rattle.thread_state.specs.declared.state.ThreadState.{ThreadState as ThreadData}
-use Rattle.thread_state.specs.Seen.{code_seen, blocks_seen, frames_seen, place_seen, thread_seen, IsThread}
+use Rattle.thread_state.specs.Seen.{code_seen, answers_seen, blocks_seen, frames_seen, place_seen, thread_seen, IsThread}
 use Rattle.thread_state.specs.Moves.{first_registers}
 use Rattle.interp_local.specs.declared.actions.Action.{Action}
 use Rattle.interp_local.specs.declared.actions.Action.TheVariants.{Loads, Stores, Updates, Allocates, Returns}
 use Rattle.interp_local.specs.declared.steps.Own.{Own}
 use Rattle.interp_local.specs.declared.steps.Own.TheVariants.{Done as HasEnded}
 use Rattle.interp_local.specs.Operands.{registers, number, pointer, cell, or_unreachable}
-use Rattle.interp_local.specs.Actions.{first_function, function_of, arguments, gives, call_action, jump, action_of, TakesRoom, decided}
+use Rattle.interp_local.specs.declared.actions.Words.{Words}
+use Rattle.interp_local.specs.declared.actions.Words.TheVariants.{Nothing, One, Two, More}
+use Rattle.ir_core.specs.declared.rtl.Rtl.{Rtl}
+use Rattle.interp_local.specs.Actions.{first_function, function_of, arguments, gives, words_given, known_action, entry_action, call_action, jump, action_of, TakesRoom, decided}
 use Rattle.interp_local.specs.Steps.{IsOwn, first_inst, inst_of, IsDefined, TakesMemory, InstTakes, FramesTake, StandsAtTaking, IsTried, IsServed, AreServed}
 use Rattle.interp_local.proofs.Begins.{FirstBegins, thread_begins}
 use Rattle.interp_local.proofs.Decides.{action_is}
@@ -80,11 +86,11 @@ ended m s none = subst (λ nx. IsOwn m s s nx (Ok HasEnded)) (sym (ap (λ fs. ne
 pub no_inst : (m : Module) (s : ThreadData) (a : At m s) → IsThread m s → inst_of m s ≡ None → IsOwn m s s (Next m (thread_seen m s)) (Err Unreachable)
 no_inst m s a thread none = subst (λ nx. IsOwn m s s nx (Err Unreachable)) (sym (a.next ∙ ap (next_inst m (thread_seen m s) a.f a.rest) none)) (refl, (thread, refl))
 
-pub next_decided : (m : Module) (s : ThreadData) (a : At m s) (i : Inst) (r : Result Action Trap) → inst_of m s ≡ Some i → IsServed m i.kind → r ≡ action_of m (function_of s) (registers m s) s.answers.init i.kind → decided m (thread_seen m s) a.f a.rest i.result (arguments i.kind) r ≡ Next m (thread_seen m s)
+pub next_decided : (m : Module) (s : ThreadData) (a : At m s) (i : Inst) (r : Result Action Trap) → inst_of m s ≡ Some i → IsServed m i.kind → r ≡ action_of m (function_of s) (registers m s) s.own (answers_seen s.answers) i.kind → decided m (thread_seen m s) a.f a.rest i.result (arguments i.kind) r ≡ Next m (thread_seen m s)
 next_decided m s a i r is served e =
     let t : ThreadState = thread_seen m s in
     ap (decided m t a.f a.rest i.result (arguments i.kind)) e
-    ∙ (λ j. decided m t a.f a.rest i.result (arguments i.kind) (action_of m (sym a.function_is j) (sym a.registers_are j) s.answers.init i.kind))
+    ∙ (λ j. decided m t a.f a.rest i.result (arguments i.kind) (action_of m (sym a.function_is j) (sym a.registers_are j) s.own (answers_seen s.answers) i.kind))
     ∙ action_is m t a.f a.rest i.result i.kind served
     ∙ sym (a.next ∙ ap (next_inst m t a.f a.rest) is)
 
@@ -115,47 +121,81 @@ p_gives W r = p_then W r _ (λ w t. absurd t)
 p_jump : (W : Type 0) (m : Module) (k : ℕ) (to : Name) → OkTakes W (jump m k to)
 p_jump W m k to = p_then W (or_unreachable (place_in (labels m k) to)) _ (λ b t. absurd t)
 
-p_call : (init : ℕ) (c : Callee) → OkTakes (IsDefined c) (call_action init c)
-p_call init (CallsEntry TargetInit) = λ t. absurd t
-p_call init (CallsEntry TargetDeinit) = λ t. absurd t
-p_call init (CallsEntry r) = tt
-p_call init (CallsFunction k params) = λ t. tt
-p_call init CallsOther = tt
+p_share : (own : ℕ) (a : Answers) (words : Words) → OkTakes ⊥ (known_action own a GetSharedVariables words)
+p_share own a Nothing = tt
+p_share own a (One (Address p)) = λ t. absurd t
+p_share own a (One (Int n)) = tt
+p_share own a (Two v w) = tt
+p_share own a More = tt
+
+p_meets : (b : Bool) → OkTakes ⊥ (Ok (if b then Action.Passes else Action.Arrives Explicit))
+p_meets true = λ t. absurd t
+p_meets false = λ t. absurd t
+
+p_known : (own : ℕ) (a : Answers) (entry : Rtl) (words : Words) → OkTakes ⊥ (known_action own a entry words)
+p_known own a GetSharedVariables words = p_share own a words
+p_known own a RegionBarrier words = p_meets (a.level == 0)
+p_known own a GlobalThreadNum words = λ t. absurd t
+p_known own a ThreadNum words = λ t. absurd t
+p_known own a NumThreads words = λ t. absurd t
+p_known own a Level words = λ t. absurd t
+p_known own a ParallelLevel words = λ t. absurd t
+p_known own a InParallel words = λ t. absurd t
+p_known own a IsSpmdExecMode words = λ t. absurd t
+p_known own a ForStaticFini words = λ t. absurd t
+p_known own a KernelEndParallel words = λ t. absurd t
+p_known own a SpmdBarrier words = λ t. absurd t
+p_known own a GenericBarrier words = λ t. absurd t
+p_known own a HardwareThreadId words = λ t. absurd t
+p_known own a _ words = tt
+
+p_other : (m : Module) (r : Registers) (own : ℕ) (a : Answers) (operands : List Typed) (entry : Rtl) → OkTakes ⊥ (and_then (operand_words m r operands) (λ words. known_action own a entry (words_given words)))
+p_other m r own a operands entry = p_then ⊥ (operand_words m r operands) (λ words. known_action own a entry (words_given words)) (λ words. p_known own a entry (words_given words))
+
+p_entry : (m : Module) (r : Registers) (own : ℕ) (a : Answers) (operands : List Typed) (entry : Rtl) → OkTakes ⊥ (entry_action m r own a operands entry)
+p_entry m r own a operands TargetInit = λ t. absurd t
+p_entry m r own a operands TargetDeinit = λ t. absurd t
+p_entry m r own a operands entry = p_other m r own a operands entry
+
+p_call : (m : Module) (r : Registers) (own : ℕ) (a : Answers) (operands : List Typed) (c : Callee) → OkTakes (IsDefined c) (call_action m r own a operands c)
+p_call m r own a operands (CallsEntry entry) = p_entry m r own a operands entry
+p_call m r own a operands (CallsFunction k params) = λ t. tt
+p_call m r own a operands CallsOther = tt
 
 p_block : (size : ℕ) (b : Bool) → OkTakes (Unit {0}) (if b then Ok (Allocates size) else Err TooLarge)
 p_block size true = λ t. tt
 p_block size false = tt
 
-p_kind : (m : Module) (k : ℕ) (r : Registers) (init : ℕ) (kind : Kind) → OkTakes (TakesMemory m kind) (action_of m k r init kind)
-p_kind m k r init (Bin op flags ty a b) = p_gives ⊥ _
-p_kind m k r init (ICmp pred ty a b) = p_gives ⊥ _
-p_kind m k r init (Cast op from to) = p_gives ⊥ _
-p_kind m k r init (Select c a b) = p_gives ⊥ _
-p_kind m k r init (Alloca ty align) = p_block (Size m.types ty) (nat_le (Size m.types ty) block_limit)
-p_kind m k r init (LoadInst ty at order align) =
+p_kind : (m : Module) (k : ℕ) (r : Registers) (own : ℕ) (answers : Answers) (kind : Kind) → OkTakes (TakesMemory m kind) (action_of m k r own answers kind)
+p_kind m k r own answers (Bin op flags ty a b) = p_gives ⊥ _
+p_kind m k r own answers (ICmp pred ty a b) = p_gives ⊥ _
+p_kind m k r own answers (Cast op from to) = p_gives ⊥ _
+p_kind m k r own answers (Select c a b) = p_gives ⊥ _
+p_kind m k r own answers (Alloca ty align) = p_block (Size m.types ty) (nat_le (Size m.types ty) block_limit)
+p_kind m k r own answers (LoadInst ty at order align) =
     p_then ⊥ (pointer m r at.ty at.value) (λ p. and_then (cell ty) (λ c. Ok (Loads p c))) (λ p. p_then ⊥ (cell ty) (λ c. Ok (Loads p c)) (λ c t. absurd t))
-p_kind m k r init (StoreInst value at order align) =
+p_kind m k r own answers (StoreInst value at order align) =
     p_then ⊥ (operand m r value.ty value.value) (λ w. and_then (pointer m r at.ty at.value) (λ p. and_then (cell value.ty) (λ c. Ok (Stores p c w)))) (λ w.
     p_then ⊥ (pointer m r at.ty at.value) (λ p. and_then (cell value.ty) (λ c. Ok (Stores p c w))) (λ p. p_then ⊥ (cell value.ty) (λ c. Ok (Stores p c w)) (λ c t. absurd t)))
-p_kind m k r init (Rmw op at value order align) =
+p_kind m k r own answers (Rmw op at value order align) =
     p_then ⊥ (pointer m r at.ty at.value) (λ p. and_then (number m r value.ty value.value) (λ n. Ok (Updates p (record { width = width_of value.ty; op = op; number = n })))) (λ p.
     p_then ⊥ (number m r value.ty value.value) (λ n. Ok (Updates p (record { width = width_of value.ty; op = op; number = n }))) (λ n t. absurd t))
-p_kind m k r init (Fence order) = λ t. absurd t
-p_kind m k r init (Call tail_word ret callee operands) = p_call init (callee_of m callee)
-p_kind m k r init (Br to) = p_jump ⊥ m k to
-p_kind m k r init (CondBr c then_to else_to) = p_then ⊥ _ _ (λ n. p_jump ⊥ m k _)
-p_kind m k r init (Switch on other cases) = p_then ⊥ _ _ (λ n. p_jump ⊥ m k _)
-p_kind m k r init (Ret None) = λ t. absurd t
-p_kind m k r init (Ret (Some v)) = p_then ⊥ (value_word m r v.value) (λ w. Ok (Returns (Some w))) (λ w t. absurd t)
-p_kind m k r init (Phi ty edges) = tt
-p_kind m k r init UnreachableInst = tt
-p_kind m k r init (Gep inbounds ty base path) = p_gives ⊥ _
+p_kind m k r own answers (Fence order) = λ t. absurd t
+p_kind m k r own answers (Call tail_word ret callee operands) = p_call m r own answers operands (callee_of m callee)
+p_kind m k r own answers (Br to) = p_jump ⊥ m k to
+p_kind m k r own answers (CondBr c then_to else_to) = p_then ⊥ _ _ (λ n. p_jump ⊥ m k _)
+p_kind m k r own answers (Switch on other cases) = p_then ⊥ _ _ (λ n. p_jump ⊥ m k _)
+p_kind m k r own answers (Ret None) = λ t. absurd t
+p_kind m k r own answers (Ret (Some v)) = p_then ⊥ (value_word m r v.value) (λ w. Ok (Returns (Some w))) (λ w t. absurd t)
+p_kind m k r own answers (Phi ty edges) = tt
+p_kind m k r own answers UnreachableInst = tt
+p_kind m k r own answers (Gep inbounds ty base path) = p_gives ⊥ _
 
-takes : (m : Module) (k : ℕ) (r : Registers) (init : ℕ) (kind : Kind) (action : Action) → Ok action ≡ action_of m k r init kind → TakesRoom action → TakesMemory m kind
-takes m k r init kind action e = subst (OkTakes (TakesMemory m kind)) (sym e) (p_kind m k r init kind)
+takes : (m : Module) (k : ℕ) (r : Registers) (own : ℕ) (answers : Answers) (kind : Kind) (action : Action) → Ok action ≡ action_of m k r own answers kind → TakesRoom action → TakesMemory m kind
+takes m k r own answers kind action e = subst (OkTakes (TakesMemory m kind)) (sym e) (p_kind m k r own answers kind)
 
-pub stands_taking : (m : Module) (s : ThreadData) (a : At m s) (i : Inst) (action : Action) → inst_of m s ≡ Some i → Ok action ≡ action_of m (function_of s) (registers m s) s.answers.init i.kind → TakesRoom action → StandsAtTaking m (thread_seen m s)
-stands_taking m s a i action is e t = subst (FramesTake m) (sym a.frames) (subst (InstTakes m) (sym (a.place_is ∙ is)) (takes m (function_of s) (registers m s) s.answers.init i.kind action e t))
+pub stands_taking : (m : Module) (s : ThreadData) (a : At m s) (i : Inst) (action : Action) → inst_of m s ≡ Some i → Ok action ≡ action_of m (function_of s) (registers m s) s.own (answers_seen s.answers) i.kind → TakesRoom action → StandsAtTaking m (thread_seen m s)
+stands_taking m s a i action is e t = subst (FramesTake m) (sym a.frames) (subst (InstTakes m) (sym (a.place_is ∙ is)) (takes m (function_of s) (registers m s) s.own (answers_seen s.answers) i.kind action e t))
 
 -- ---- steps that may want memory
 

@@ -7,24 +7,29 @@ use Rattle.ir_core.specs.declared.instructions.RmwOp.{RmwOp}
 use Rattle.ir_core.specs.declared.instructions.Kind.{Kind}
 use Rattle.ir_core.specs.declared.instructions.Kind.TheVariants.{Bin, ICmp, Cast, Select, Alloca, Load as LoadInst, Store as StoreInst, Rmw, Gep, Fence, Call, Br, CondBr, Switch, Ret}
 use Rattle.ir_core.specs.declared.module.Module.{Module}
-use Rattle.ir_core.specs.declared.rtl.Rtl.TheVariants.{TargetInit, TargetDeinit}
+use Rattle.ir_core.specs.declared.rtl.Rtl.{Rtl}
+use Rattle.ir_core.specs.declared.rtl.Rtl.TheVariants.{TargetInit, TargetDeinit, GetSharedVariables, Barrier as RegionBarrier, GlobalThreadNum, ThreadNum, NumThreads, Level, ParallelLevel, InParallel, IsSpmdExecMode, ForStaticFini, KernelEndParallel, SpmdBarrier, GenericBarrier, HardwareThreadId}
 use Rattle.ir_core.specs.FirstForm.{is_width}
 use Rattle.ir_core.specs.Places.{labels, place_in}
 use Rattle.ir_core.specs.Layout.{Size}
 use Rattle.mem_model.specs.Memory.{block_limit}
 use Rattle.mem_model.specs.declared.memory.Word.{Word}
-use Rattle.mem_model.specs.declared.memory.Word.TheVariants.{Int}
+use Rattle.mem_model.specs.declared.memory.Word.TheVariants.{Int, Ptr as Address}
+use Rattle.mem_model.specs.declared.step.Barrier.TheVariants.{Explicit, Team as TeamBarrier, Guard}
 use Rattle.mem_model.specs.declared.step.Trap.{Trap}
 use Rattle.mem_model.specs.declared.step.Trap.TheVariants.{Unreachable, TooLarge}
 use Rattle.mem_model.specs.Answers.{IsCell, IsOf}
-use Rattle.mem_model.specs.Thread.{Name, Registers, Frame, ThreadState, where_is}
-use Rattle.mem_model.specs.Values.{width_of, value_word, operand, and_then}
-use Rattle.mem_model.specs.Next.{NextStep, Local, Pending, Trapped, Deinit as DeinitEvent, goes_on, goes_past, loads, stores, updates, allocates, case_for, to_block, Callee, CallsEntry, CallsFunction, CallsOther, defined_at, callee_of, next_call, returns}
+use Rattle.mem_model.specs.Thread.{Name, Registers, Answers, Frame, ThreadState, where_is, outside_region}
+use Rattle.mem_model.specs.Values.{width_of, value_word, operand, and_then, operand_words}
+use Rattle.mem_model.specs.Entries.{one_if, is_parallel, gets_shared}
+use Rattle.mem_model.specs.Next.{NextStep, Local, Pending, Trapped, Deinit as DeinitEvent, Arrives as ArrivesAt, goes_on, goes_past, loads, stores, updates, allocates, case_for, to_block, Callee, CallsEntry, CallsFunction, CallsOther, defined_at, callee_of, next_call, returns}
 use Rattle.thread_state.specs.declared.state.Frame.{Frame as FrameData}
 use Rattle.thread_state.specs.declared.state.ThreadState.{ThreadState as ThreadData}
 use Rattle.interp_local.specs.declared.actions.Change.{Change}
 use Rattle.interp_local.specs.declared.actions.Action.{Action}
-use Rattle.interp_local.specs.declared.actions.Action.TheVariants.{Gives, Passes, Loads, Stores, Updates, Allocates, Deinit, Calls, Jumps, Returns}
+use Rattle.interp_local.specs.declared.actions.Action.TheVariants.{Gives, Passes, Loads, Stores, Updates, Allocates, Shares, Outside, Arrives, Deinit, Calls, Jumps, Returns}
+use Rattle.interp_local.specs.declared.actions.Words.{Words}
+use Rattle.interp_local.specs.declared.actions.Words.TheVariants.{Nothing, One, Two, More}
 use Rattle.interp_local.specs.Operands.{number, pointer, cell, or_unreachable, binary, comparison, conversion, selection, element}
 
 abbrev pub first_function : List FrameData → ℕ
@@ -44,12 +49,41 @@ arguments _ = []
 abbrev pub gives : Result Word Trap → Result Action Trap
 gives found = and_then found (λ word. Ok (Gives word))
 
-abbrev pub call_action : ℕ → Callee → Result Action Trap
-call_action init (CallsEntry TargetInit) = Ok (Gives (Int init))
-call_action init (CallsEntry TargetDeinit) = Ok Deinit
-call_action init (CallsEntry r) = Err Unreachable
-call_action init (CallsFunction k params) = Ok (Calls k)
-call_action init CallsOther = Err Unreachable
+-- the words of a call's operands, as far as entry points look at them
+abbrev pub words_given : List Word → Words
+words_given [] = Nothing
+words_given (word ∷ []) = One word
+words_given (first ∷ second ∷ []) = Two first second
+words_given (first ∷ second ∷ third ∷ more) = More
+
+-- what a thread of a number does at a call of an entry point that has looked at its operands, by what it is answered now
+abbrev pub known_action : ℕ → Answers → Rtl → Words → Result Action Trap
+known_action own a GetSharedVariables (One (Address at)) = Ok (Shares at)
+known_action own a RegionBarrier words = Ok (if a.level == 0 then Passes else Arrives Explicit)
+known_action own a GlobalThreadNum words = Ok (Gives (Int a.number))
+known_action own a ThreadNum words = Ok (Gives (Int a.number))
+known_action own a NumThreads words = Ok (Gives (Int a.count))
+known_action own a Level words = Ok (Gives (Int a.level))
+known_action own a ParallelLevel words = Ok (Gives (Int a.level))
+known_action own a InParallel words = Ok (Gives (Int (one_if (is_parallel a))))
+known_action own a IsSpmdExecMode words = Ok (Gives (Int a.spmd))
+known_action own a ForStaticFini words = Ok Passes
+known_action own a KernelEndParallel words = Ok Outside
+known_action own a SpmdBarrier words = Ok (Arrives Guard)
+known_action own a GenericBarrier words = Ok (Arrives TeamBarrier)
+known_action own a HardwareThreadId words = Ok (Gives (Int own))
+known_action own a r words = Err Unreachable
+
+-- init and deinit look at no operand
+abbrev pub entry_action : Module → Registers → ℕ → Answers → List Typed → Rtl → Result Action Trap
+entry_action m r own a operands TargetInit = Ok (Gives (Int a.init))
+entry_action m r own a operands TargetDeinit = Ok Deinit
+entry_action m r own a operands entry = and_then (operand_words m r operands) (λ words. known_action own a entry (words_given words))
+
+abbrev pub call_action : Module → Registers → ℕ → Answers → List Typed → Callee → Result Action Trap
+call_action m r own a operands (CallsEntry entry) = entry_action m r own a operands entry
+call_action m r own a operands (CallsFunction k params) = Ok (Calls k)
+call_action m r own a operands CallsOther = Err Unreachable
 
 -- to a block of the function at a place
 abbrev pub jump : Module → ℕ → Name → Result Action Trap
@@ -78,24 +112,24 @@ return_action m r (Some v) = and_then (value_word m r v.value) (λ word. Ok (Ret
 abbrev pub block_action : ℕ → Result Action Trap
 block_action size = if nat_le size block_limit then Ok (Allocates size) else Err TooLarge
 
--- by the registers of the innermost call, the place of its function, and what __kmpc_target_init answers
-abbrev pub action_of : Module → ℕ → Registers → ℕ → Kind → Result Action Trap
-action_of m k r init (Bin op flags ty a b) = gives (binary m r op flags ty a b)
-action_of m k r init (ICmp pred ty a b) = gives (comparison m r pred ty a b)
-action_of m k r init (Cast op from to) = gives (conversion m r op from to)
-action_of m k r init (Alloca ty align) = block_action (Size m.types ty)
-action_of m k r init (Select c a b) = gives (selection m r c a b)
-action_of m k r init (LoadInst ty at order align) = load_action m r ty at
-action_of m k r init (StoreInst value at order align) = store_action m r value at
-action_of m k r init (Rmw op at value order align) = update_action m r op at value
-action_of m k r init (Gep inbounds ty base path) = gives (element m r ty base path)
-action_of m k r init (Fence order) = Ok Passes
-action_of m k r init (Call tail_word ret callee operands) = call_action init (callee_of m callee)
-action_of m k r init (Br to) = jump m k to
-action_of m k r init (CondBr c then_to else_to) = branch_action m k r c then_to else_to
-action_of m k r init (Switch on other cases) = switch_action m k r on other cases
-action_of m k r init (Ret value) = return_action m r value
-action_of m k r init _ = Err Unreachable
+-- by the registers of the innermost call, the place of its function, the thread's number, and what entry points answer to it now
+abbrev pub action_of : Module → ℕ → Registers → ℕ → Answers → Kind → Result Action Trap
+action_of m k r own answers (Bin op flags ty a b) = gives (binary m r op flags ty a b)
+action_of m k r own answers (ICmp pred ty a b) = gives (comparison m r pred ty a b)
+action_of m k r own answers (Cast op from to) = gives (conversion m r op from to)
+action_of m k r own answers (Alloca ty align) = block_action (Size m.types ty)
+action_of m k r own answers (Select c a b) = gives (selection m r c a b)
+action_of m k r own answers (LoadInst ty at order align) = load_action m r ty at
+action_of m k r own answers (StoreInst value at order align) = store_action m r value at
+action_of m k r own answers (Rmw op at value order align) = update_action m r op at value
+action_of m k r own answers (Gep inbounds ty base path) = gives (element m r ty base path)
+action_of m k r own answers (Fence order) = Ok Passes
+action_of m k r own answers (Call tail_word ret callee operands) = call_action m r own answers operands (callee_of m callee)
+action_of m k r own answers (Br to) = jump m k to
+action_of m k r own answers (CondBr c then_to else_to) = branch_action m k r c then_to else_to
+action_of m k r own answers (Switch on other cases) = switch_action m k r on other cases
+action_of m k r own answers (Ret value) = return_action m r value
+action_of m k r own answers _ = Err Unreachable
 
 -- a change of an integer of a width, by a number of it
 abbrev pub IsChange : Change → Type 0
@@ -125,6 +159,9 @@ acted m t f rest x args (Loads at cell) = loads t f rest x cell (where_is at)
 acted m t f rest x args (Stores at cell word) = stores t f rest cell word (where_is at)
 acted m t f rest x args (Updates at change) = updates t f rest x change.width change.op change.number (where_is at)
 acted m t f rest x args (Allocates size) = allocates t f rest x size
+acted m t f rest x args (Shares at) = gets_shared t f rest at
+acted m t f rest x args Outside = Local (record (goes_past t f rest) { answers = outside_region t })
+acted m t f rest x args (Arrives kind) = Pending (ArrivesAt kind None)
 acted m t f rest x args Deinit = Pending DeinitEvent
 acted m t f rest x args (Calls k) = next_call m t f rest x args (defined_at m (Some k))
 acted m t f rest x args (Jumps b) = to_block m t f rest (Some b)

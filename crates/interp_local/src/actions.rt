@@ -1,11 +1,17 @@
 //! What an instruction does, once its operands are read.
-ghost use Rattle.std.specs.Prelude.{◌≡◌, ℕ, IfOk, Some, Ok, Err, ◌==◌, if◌then◌else◌};
+ghost use Rattle.std.specs.Prelude.{◌≡◌, ℕ, List, [], ◌∷◌, ◌++◌, IfOk, Some, Ok, Err, ◌==◌, if◌then◌else◌};
+ghost use Rattle.ir_core.specs.declared.instructions.Typed.{Typed};
+ghost use Rattle.mem_model.specs.declared.memory.Word.{Word as SpecWord};
+ghost use Rattle.mem_model.specs.Thread.{Registers, Answers as SpecAnswers};
+ghost use Rattle.mem_model.specs.Values.{and_then, operand_words};
+ghost use Rattle.mem_model.specs.Entries as spec;
+ghost use Rattle.thread_state.specs.Seen.{answers_seen};
 ghost use Rattle.ir_core.specs.Places.{function_place};
 ghost use Rattle.ir_core.specs.Layout.{WellFormed, Size};
 ghost use Rattle.mem_model.specs.Next.{CallsEntry, defined_at, callee_of, is_case, case_for};
 ghost use Rattle.interp_local.specs.Operands.{AreFew, registers};
 ghost use Rattle.interp_local.specs.Steps.{IsServed};
-ghost use Rattle.interp_local.specs.Actions.{IsAction, gives, action_of, call_action, jump, function_of, load_action, store_action, update_action, block_action, branch_action, switch_action, return_action};
+ghost use Rattle.interp_local.specs.Actions.{IsAction, gives, action_of, words_given, known_action, entry_action, call_action, jump, function_of, load_action, store_action, update_action, block_action, branch_action, switch_action, return_action};
 
 use crate::addresses::element;
 use crate::operands::{
@@ -13,8 +19,8 @@ use crate::operands::{
 };
 use ir_core::{Case, Kind, Name, RmwOp, Rtl, Ty, Typed, Value};
 use ir_tables::Indexed;
-use mem_model::{Cell, Ptr, Trap, Word};
-use thread_state::ThreadState;
+use mem_model::{Barrier, Cell, Ptr, Trap, Word};
+use thread_state::{Answers, ThreadState};
 
 /// An atomic change of a number with so many bits, by an operation and its operand.
 #[derive(Clone, Copy)]
@@ -36,6 +42,12 @@ pub enum Action {
     Updates(Ptr, Change),
     /// Makes a block of so many zero bytes in the own stack.
     Allocates(u64),
+    /// Stores the address of the capture area in the own stack.
+    Shares(Ptr),
+    /// Goes on behind the instruction, outside of a region.
+    Outside,
+    /// Waits at a barrier, and then goes on behind the instruction.
+    Arrives(Barrier),
     /// Calls `__kmpc_target_deinit`.
     Deinit,
     /// Calls the function at this place of the module.
@@ -90,7 +102,7 @@ fn case_of<'a>(number: u64, other: &'a Name, cases: &'a [Case]) -> &'a Name
 
 /// Whether the function at a place has blocks.
 fn has_body(m: &Indexed, place: usize) -> bool
-    ensures { (init : ℕ) → call_action init (defined_at m.now (Some place)) ≡ (if result then Ok (Action.Calls place) else Err Trap.Unreachable) }
+    ensures { (r : Registers) (own : ℕ) (answers : SpecAnswers) (operands : List Typed) → call_action m.now r own answers operands (defined_at m.now (Some place)) ≡ (if result then Ok (Action.Calls place) else Err Trap.Unreachable) }
 {
     match m.module().functions.get(place) {
         None => false,
@@ -100,7 +112,7 @@ fn has_body(m: &Indexed, place: usize) -> bool
 
 /// A call of a function that has blocks.
 fn call_defined(m: &Indexed, name: &Name) -> Result<Action, Trap>
-    ensures value { (init : ℕ) → result ≡ call_action init (defined_at m.now (function_place m.now name.now)) }
+    ensures value { (r : Registers) (own : ℕ) (answers : SpecAnswers) (operands : List Typed) → result ≡ call_action m.now r own answers operands (defined_at m.now (function_place m.now name.now)) }
     ensures is { IfOk result IsAction }
 {
     let Some(place) = m.function(name) else {
@@ -113,28 +125,122 @@ fn call_defined(m: &Indexed, name: &Name) -> Result<Action, Trap>
     }
 }
 
-/// A call of an entry point; those that aren't run are in no module that is served.
-fn call_entry(s: &ThreadState, entry: Rtl) -> Result<Action, Trap>
-    ensures value { result ≡ call_action s.now.answers.init (CallsEntry entry) }
+/// The words of a call's operands, as far as entry points look at them.
+#[derive(Clone, Copy)]
+pub(crate) enum Words {
+    Nothing,
+    One(Word),
+    Two(Word, Word),
+    More,
+}
+
+/// The words with one more behind them.
+fn with_word(words: Words, word: Word) -> Words
+    ensures { (first : List SpecWord) → words ≡ words_given first → result ≡ words_given (first ++ word ∷ []) }
+{
+    match words {
+        Words::Nothing => Words::One(word),
+        Words::One(first) => Words::Two(first, word),
+        Words::Two(_, _) | Words::More => Words::More,
+    }
+}
+
+/// The words of operands.
+fn given(m: &Indexed, s: &ThreadState, args: &[Typed]) -> Result<Words, Trap>
+    requires { AreFew m.now }
+    ensures { result ≡ and_then (operand_words m.now (registers m.now s.now) args.now) (λ words. Ok (words_given words)) }
+{
+    let mut words = Words::Nothing;
+    for arg in args {
+        let word = value_word(m, s, &arg.value)?;
+        words = with_word(words, word);
+    }
+    Ok(words)
+}
+
+/// Asks for the capture area: the operand is the place in the own stack for its address.
+fn share(words: Words) -> Result<Action, Trap>
+    ensures value { (own : ℕ) (answers : SpecAnswers) → result ≡ known_action own answers Rtl.GetSharedVariables words }
     ensures is { IfOk result IsAction }
 {
-    match entry {
-        Rtl::TargetInit => Ok(Action::Gives(Word::Int(u64::from(s.answers.init)))),
-        Rtl::TargetDeinit => Ok(Action::Deinit),
+    match words {
+        Words::One(Word::Ptr(at)) => Ok(Action::Shares(at)),
         _ => Err(Trap::Unreachable),
     }
 }
 
+/// Comes to an explicit barrier: outside of a region it is nothing.
+fn meet(level: u32) -> Action
+    ensures { result ≡ (if level == 0 then Action.Passes else Action.Arrives Barrier.Explicit) }
+{
+    if level == 0 {
+        Action::Passes
+    } else {
+        Action::Arrives(Barrier::Explicit)
+    }
+}
+
+/// Gives a number.
+fn answer(number: u32) -> Action
+    ensures { result ≡ Action.Gives (SpecWord.Int number) }
+{
+    Action::Gives(Word::Int(u64::from(number)))
+}
+
+/// Whether a thread with these answers is in a region of more than one thread.
+fn is_parallel(answers: Answers) -> bool
+    ensures { result ≡ spec.is_parallel (answers_seen answers) }
+{
+    answers.level != 0 && answers.count > 1
+}
+
+/// A call of an entry point with these operands; those that aren't run are in no module that is served.
+fn known(s: &ThreadState, entry: Rtl, words: Words) -> Result<Action, Trap>
+    ensures value { result ≡ known_action s.now.own (answers_seen s.now.answers) entry words }
+    ensures is { IfOk result IsAction }
+{
+    let answers = s.answers;
+    match entry {
+        Rtl::GetSharedVariables => share(words),
+        Rtl::Barrier => Ok(meet(answers.level)),
+        Rtl::GlobalThreadNum | Rtl::ThreadNum => Ok(answer(answers.number)),
+        Rtl::NumThreads => Ok(answer(answers.count)),
+        Rtl::Level | Rtl::ParallelLevel => Ok(answer(answers.level)),
+        Rtl::InParallel => Ok(answer(u32::from(is_parallel(answers)))),
+        Rtl::IsSpmdExecMode => Ok(answer(answers.spmd)),
+        Rtl::ForStaticFini => Ok(Action::Passes),
+        Rtl::KernelEndParallel => Ok(Action::Outside),
+        Rtl::SpmdBarrier => Ok(Action::Arrives(Barrier::Guard)),
+        Rtl::GenericBarrier => Ok(Action::Arrives(Barrier::Team)),
+        Rtl::HardwareThreadId => Ok(answer(s.own)),
+        _ => Err(Trap::Unreachable),
+    }
+}
+
+/// A call of an entry point.
+fn call_entry(m: &Indexed, s: &ThreadState, entry: Rtl, args: &[Typed]) -> Result<Action, Trap>
+    requires { AreFew m.now }
+    ensures value { result ≡ entry_action m.now (registers m.now s.now) s.now.own (answers_seen s.now.answers) args.now entry }
+    ensures is { IfOk result IsAction }
+{
+    match entry {
+        Rtl::TargetInit => Ok(answer(s.answers.init)),
+        Rtl::TargetDeinit => Ok(Action::Deinit),
+        _ => known(s, entry, given(m, s, args)?),
+    }
+}
+
 /// A call.
-fn call(m: &Indexed, s: &ThreadState, callee: &Value) -> Result<Action, Trap>
-    ensures value { result ≡ call_action s.now.answers.init (callee_of m.now callee.now) }
+fn call(m: &Indexed, s: &ThreadState, callee: &Value, args: &[Typed]) -> Result<Action, Trap>
+    requires { AreFew m.now }
+    ensures value { result ≡ call_action m.now (registers m.now s.now) s.now.own (answers_seen s.now.answers) args.now (callee_of m.now callee.now) }
     ensures is { IfOk result IsAction }
 {
     let Value::Global(name) = callee else {
         return Err(Trap::Unreachable);
     };
     match Rtl::of(name) {
-        Some(entry) => call_entry(s, entry),
+        Some(entry) => call_entry(m, s, entry, args),
         None => call_defined(m, name),
     }
 }
@@ -258,7 +364,7 @@ fn give(found: Result<Word, Trap>) -> Result<Action, Trap>
 pub fn decide(m: &Indexed, s: &ThreadState, kind: &Kind) -> Result<Action, Trap>
     requires few { AreFew m.now }
     requires served { IsServed m.now kind.now }
-    ensures value { result ≡ action_of m.now (function_of s.now) (registers m.now s.now) s.now.answers.init kind.now }
+    ensures value { result ≡ action_of m.now (function_of s.now) (registers m.now s.now) s.now.own (answers_seen s.now.answers) kind.now }
     ensures is { IfOk result IsAction }
 {
     match kind {
@@ -278,7 +384,7 @@ pub fn decide(m: &Indexed, s: &ThreadState, kind: &Kind) -> Result<Action, Trap>
         Kind::Rmw { op, at, value, .. } => update(m, s, *op, at, value),
         Kind::Gep { ty, base, path, .. } => give(element(m, s, ty, base, path.as_slice())),
         Kind::Fence { .. } => Ok(Action::Passes),
-        Kind::Call { callee, .. } => call(m, s, callee),
+        Kind::Call { callee, args, .. } => call(m, s, callee, args.as_slice()),
         Kind::Br { to } => jump_to(m, s, to),
         Kind::CondBr { cond, yes, no } => branch(m, s, cond, yes, no),
         Kind::Switch { on, other, cases } => switch(m, s, on, other, cases.as_slice()),

@@ -6,6 +6,7 @@ ghost use Rattle.ir_core.specs.Places.{Name};
 ghost use Rattle.mem_model.specs.Answers.{IsCell};
 ghost use Rattle.mem_model.specs.declared.memory.Word.{Word as SpecWord};
 ghost use Rattle.mem_model.specs.Thread.{Frame, InStack, where_is};
+ghost use Rattle.mem_model.specs.Entries.{gets_shared};
 ghost use Rattle.mem_model.specs.Next.{Next, loads, stores, updates, returns};
 ghost use Rattle.thread_state.specs.Seen.{thread_seen, IsThread};
 ghost use Rattle.interp_local.specs.Operands.{AreFew};
@@ -87,6 +88,16 @@ fn look_store(s: &ThreadState, at: Ptr, cell: Cell) -> Stepped
     }
 }
 
+/// Whether the address of the capture area can be stored.
+fn look_share(s: &ThreadState, at: Ptr) -> Stepped
+    ensures { (m : Module) (f : Frame) (rest : List Frame) → IsThread m s.now → (thread_seen m s.now).frames ≡ f ∷ rest → Tells (gets_shared (thread_seen m s.now) f rest at) result }
+{
+    match part_of(at) {
+        Part::Stack(spot) => look_store_own(s, spot, Cell::Ptr),
+        Part::Elsewhere => Err(Trap::NotStack),
+    }
+}
+
 /// Whether an atomic change in a block of a stack goes.
 fn look_update_own(s: &ThreadState, spot: Spot, change: Change) -> Stepped
     requires { IsChange change }
@@ -134,10 +145,11 @@ fn look_at(m: &Indexed, s: &ThreadState, inst: &Inst, action: Action) -> Stepped
     ensures { (f : Frame) (rest : List Frame) → (thread_seen m.now s.now).frames ≡ f ∷ rest → Tells (acted m.now (thread_seen m.now s.now) f rest inst.now.result (arguments inst.now.kind) action) result }
 {
     match action {
-        Action::Gives(_) | Action::Passes | Action::Allocates(_) => Ok(Own::Went),
+        Action::Gives(_) | Action::Passes | Action::Allocates(_) | Action::Outside => Ok(Own::Went),
         Action::Loads(at, cell) => look_load(s, at, cell),
         Action::Stores(at, cell, _) => look_store(s, at, cell),
-        Action::Deinit => Ok(Own::Event),
+        Action::Shares(at) => look_share(s, at),
+        Action::Deinit | Action::Arrives(_) => Ok(Own::Event),
         Action::Jumps(block) => look_jump(m, s, block),
         Action::Returns(_) => Ok(look_return(s)),
         Action::Updates(at, change) => look_update(s, at, change),

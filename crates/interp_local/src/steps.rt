@@ -4,9 +4,10 @@ ghost use Rattle.std.specs.Option.{option_copied};
 ghost use Rattle.ir_core.specs.Places.{Name};
 ghost use Rattle.mem_model.specs.Answers.{IsCell, IsOf};
 ghost use Rattle.ir_core.specs.declared.module.Module.{Module};
-ghost use Rattle.mem_model.specs.Thread.{Frame, InStack, where_is};
+ghost use Rattle.mem_model.specs.Thread.{Frame, InStack, where_is, outside_region};
+ghost use Rattle.mem_model.specs.Entries.{gets_shared};
 ghost use Rattle.ir_core.specs.declared.instructions.Typed.{Typed};
-ghost use Rattle.mem_model.specs.Next.{loads, stores, updates, goes_back, returns, result_of};
+ghost use Rattle.mem_model.specs.Next.{loads, stores, updates, goes_past, goes_back, returns, result_of};
 ghost use Rattle.interp_local.specs.Operands.{AreFew};
 ghost use Rattle.interp_local.specs.Actions.{IsAction, IsChange, TakesRoom, arguments, acted};
 ghost use Rattle.thread_state.specs.Seen.{thread_seen, IsThread, IsSeen};
@@ -181,6 +182,31 @@ fn update(s: &mut ThreadState, register: Option<usize>, at: Ptr, change: Change)
     }
 }
 
+/// The address of the capture area.
+const CAPTURE_AREA: Word = Word::Ptr(Ptr::At(BlockName::Captures, 0));
+
+/// Stores the address of the capture area where a pointer points to in the own stack.
+fn share(s: &mut ThreadState, at: Ptr) -> Stepped
+    requires within { index_of s.old + 1 < 2 ^ 64 }
+    ensures { (m : Module) (f : Frame) (rest : List Frame) → IsThread m s.old → (thread_seen m s.old).frames ≡ f ∷ rest → IsOwn m s.old s.new (gets_shared (thread_seen m s.old) f rest at) result }
+{
+    match part_of(at) {
+        Part::Stack(spot) => store_own(s, spot, Cell::Ptr, CAPTURE_AREA),
+        Part::Elsewhere => Err(Trap::NotStack),
+    }
+}
+
+/// Goes past a call behind which the thread is outside of a region.
+fn leave_region(s: &mut ThreadState)
+    requires within { index_of s.old + 1 < 2 ^ 64 }
+    ensures { (m : Module) (f : Frame) (rest : List Frame) → IsThread m s.old → (thread_seen m s.old).frames ≡ f ∷ rest → IsSeen m s.new (record (goes_past (thread_seen m s.old) f rest) { answers = outside_region (thread_seen m s.old) }) }
+{
+    s.go_past();
+    s.answers.number = 0;
+    s.answers.count = 1;
+    s.answers.level = 0;
+}
+
 /// Goes on in the innermost call behind the call at which it stands, with a result or without one.
 fn go_behind(m: &Indexed, s: &mut ThreadState, word: Option<Word>)
     requires { IsSome (inst_of m.now s.old) }
@@ -235,7 +261,12 @@ fn perform_own(m: &Indexed, s: &mut ThreadState, register: Option<usize>, action
         Action::Loads(at, cell) => load(s, register, at, cell),
         Action::Stores(at, cell, word) => store(s, at, cell, word),
         Action::Updates(at, change) => update(s, register, at, change),
-        Action::Deinit => Ok(Own::Event),
+        Action::Shares(at) => share(s, at),
+        Action::Outside => {
+            leave_region(s);
+            Ok(Own::Went)
+        }
+        Action::Deinit | Action::Arrives(_) => Ok(Own::Event),
         Action::Jumps(block) => jump(m, s, block),
         Action::Returns(word) => Ok(return_to(m, s, word)),
         Action::Calls(_) | Action::Allocates(_) => unreachable!(),

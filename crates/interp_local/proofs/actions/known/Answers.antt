@@ -1,0 +1,10 @@
+use Rattle.std.proofs.Common.{sym, ap, ◌∙◌}
+use Rattle.thread_state.specs.Seen.{answers_seen}
+use Rattle.interp_local.specs.Actions.{known_action}
+use Rattle.interp_local.proofs.actions.known.Goals as goal
+
+pub returns-in-GetSharedVariables-clause-value : goal.returns-in-GetSharedVariables-clause-value
+returns-in-GetSharedVariables-clause-value c =
+    let own = c.args.s.now.own in
+    let a = answers_seen c.args.s.now.answers in
+    c.share.ensures.value own a ∙ ap (λ entry. known_action own a entry c.args.words) (sym c.in-GetSharedVariables.is)
