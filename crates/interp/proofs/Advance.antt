@@ -1,5 +1,5 @@
 -- The steps of a team that a thread's own step, its event or its trap is.
-use Rattle.std.proofs.Common.{◌≡◌, ℕ, zero, suc, List, [], ◌∷◌, map, true, Option, Some, None, Result, Ok, Err, refl, sym, ap, ◌∙◌, subst, slice_get, slice_set}
+use Rattle.std.proofs.Common.{◌≡◌, ◌⊎◌, inl, inr, ℕ, zero, suc, List, [], ◌∷◌, map, true, Option, Some, None, Result, Ok, Err, refl, sym, ap, ◌∙◌, subst, slice_get, slice_set}
 use Rattle.std.specs.Prelude.{option_map, MatchResult}
 use Rattle.std.proofs.lemmas.Bool.{and_parts}
 use Rattle.std.proofs.lemmas.List.{map-set}
@@ -15,7 +15,7 @@ use Rattle.mem_model.specs.declared.step.Moved.TheVariants.{Local as LocalMove, 
 use Rattle.mem_model.specs.Thread.{ThreadState}
 use Rattle.mem_model.specs.Next.{NextStep, Local, Pending, Done, Trapped, Next, line_at}
 use Rattle.team_model.specs.declared.Stand.{Stand}
-use Rattle.team_model.specs.declared.Stand.TheVariants.{Runs, Waits, Ended}
+use Rattle.team_model.specs.declared.Stand.TheVariants.{Runs, Waits, Ended as Gone}
 use Rattle.team_model.specs.declared.Trapping.{Trapping}
 use Rattle.team_model.specs.Team.{TeamShared, Team, by_next, by_thread, by_stand, unless_trapped, TeamStep}
 use Rattle.thread_state.specs.declared.state.ThreadState.{ThreadState as ThreadData}
@@ -24,9 +24,10 @@ use Rattle.interp_local.specs.declared.steps.Own.TheVariants.{Went as WentOn, Ev
 use Rattle.interp_local.specs.declared.steps.Own.{Own}
 use Rattle.interp_local.specs.Steps.{IsOwn, IsNext}
 use Rattle.interp.specs.declared.shared.TeamShared.{TeamShared as SharedData}
+use Rattle.interp.specs.declared.shared.Answer.{Answer}
 use Rattle.interp.specs.declared.shared.Answer.TheVariants.{Went, Wait, Trapped as TrapAnswer}
 use Rattle.interp.specs.declared.team.Team.{Team as TeamData}
-use Rattle.interp.specs.Events.{shared_seen, IsAnswer, IsPending, HasHappened}
+use Rattle.interp.specs.Events.{shared_seen, answer_of, IsPending, HasHappened}
 use Rattle.interp.specs.Teams.{team_seen, runs, goes, is_running, IsMoved, Advances, HasAdvanced, AreThreads, HasStepped}
 use Rattle.interp.proofs.Happens.{set_same}
 
@@ -69,7 +70,7 @@ runs_on : (o : Option Stand) → runs o ≡ true → o ≡ Some Runs
 runs_on None e = let f : ⊥ = cc in absurd f
 runs_on (Some Runs) e = refl
 runs_on (Some (Waits b)) e = let f : ⊥ = cc in absurd f
-runs_on (Some Ended) e = let f : ⊥ = cc in absurd f
+runs_on (Some Gone) e = let f : ⊥ = cc in absurd f
 
 module _ (sh : SharedData) (n : ℕ) (running : is_running sh n ≡ true) where
   pub not_trapped : sh.trapped ≡ None
@@ -80,25 +81,41 @@ module _ (sh : SharedData) (n : ℕ) (running : is_running sh n ≡ true) where
 
 -- ---- events
 
-moved_event : (nx : NextStep) (o : Option Trapping) → IsPending nx → IsAnswer o Went → IsMoved nx o EventMove
-moved_event (Pending e) None p a = tt
-moved_event (Pending e) (Some t) p a = absurd a
-moved_event (Local u) o p a = absurd p
-moved_event Done o p a = absurd p
-moved_event (Trapped x) o p a = absurd p
+moved_event : (nx : NextStep) (o : Option Trapping) → IsPending nx → o ≡ None → IsMoved nx o EventMove
+moved_event (Pending e) None p none = tt
+moved_event (Pending e) (Some t) p none = let f : ⊥ = cc in absurd f
+moved_event (Local u) o p none = absurd p
+moved_event Done o p none = absurd p
+moved_event (Trapped x) o p none = absurd p
 
-moved_trap : (nx : NextStep) (o : Option Trapping) (x : Trap) → IsPending nx → IsAnswer o (TrapAnswer x) → IsMoved nx o TrapMove
-moved_trap (Pending e) None x p a = absurd a
-moved_trap (Pending e) (Some t) x p a = tt
-moved_trap (Local u) o x p a = absurd p
-moved_trap Done o x p a = absurd p
-moved_trap (Trapped y) o x p a = absurd p
+moved_trap : (nx : NextStep) (o : Option Trapping) → IsPending nx → (o ≡ None → ⊥) → IsMoved nx o TrapMove
+moved_trap (Pending e) None p some = absurd (some refl)
+moved_trap (Pending e) (Some t) p some = tt
+moved_trap (Local u) o p some = absurd p
+moved_trap Done o p some = absurd p
+moved_trap (Trapped y) o p some = absurd p
 
-pub event_goes : (m : Module) (n : ℕ) (sh sh' : SharedData) (s s' : ThreadData) → IsPending (Next m (thread_seen m s)) → HasHappened m n 0 sh sh' s s' Went → Advances m n sh sh' s s' EventMove
-event_goes m n sh sh' s s' p h = record { thread = h.thread; step = h.step; moved_is = moved_event (Next m (thread_seen m s)) sh'.trapped p h.answer_is }
+-- the answer is a trap exactly where the run has trapped
+no_trap_yet : (a : Answer) (o : Option Trapping) (stand : Option Stand) → a ≡ answer_of o stand → ((x : Trap) → a ≡ TrapAnswer x → ⊥) → o ≡ None
+no_trap_yet a None stand e other = refl
+no_trap_yet a (Some t) stand e other = absurd (other t.trap e)
+
+is_trap : (x : Trap) (o : Option Trapping) (stand : Option Stand) → TrapAnswer x ≡ answer_of o stand → o ≡ None → ⊥
+is_trap x (Some t) stand e none = let f : ⊥ = cc in f
+is_trap x None None e none = let f : ⊥ = cc in f
+is_trap x None (Some Runs) e none = let f : ⊥ = cc in f
+is_trap x None (Some (Waits kind)) e none = let f : ⊥ = cc in f
+is_trap x None (Some Gone) e none = let f : ⊥ = cc in f
+
+pub goes_or_waits : (a : Answer) → (a ≡ Went) ⊎ (a ≡ Wait) → (x : Trap) → a ≡ TrapAnswer x → ⊥
+goes_or_waits a (inl e) x h = let f : Went ≡ TrapAnswer x = sym e ∙ h in let g : ⊥ = cc in g
+goes_or_waits a (inr e) x h = let f : Wait ≡ TrapAnswer x = sym e ∙ h in let g : ⊥ = cc in g
+
+pub event_goes : (m : Module) (n : ℕ) (sh sh' : SharedData) (s s' : ThreadData) (a : Answer) → IsPending (Next m (thread_seen m s)) → ((x : Trap) → a ≡ TrapAnswer x → ⊥) → HasHappened m n 0 sh sh' s s' a → Advances m n sh sh' s s' EventMove
+event_goes m n sh sh' s s' a p other h = record { thread = h.thread; step = h.step; moved_is = moved_event (Next m (thread_seen m s)) sh'.trapped p (no_trap_yet a sh'.trapped (slice_get sh'.stands n) h.answer_is other) }
 
 pub event_traps : (m : Module) (n : ℕ) (sh sh' : SharedData) (s s' : ThreadData) (x : Trap) → IsPending (Next m (thread_seen m s)) → HasHappened m n 0 sh sh' s s' (TrapAnswer x) → Advances m n sh sh' s s' TrapMove
-event_traps m n sh sh' s s' x p h = record { thread = h.thread; step = h.step; moved_is = moved_trap (Next m (thread_seen m s)) sh'.trapped x p h.answer_is }
+event_traps m n sh sh' s s' x p h = record { thread = h.thread; step = h.step; moved_is = moved_trap (Next m (thread_seen m s)) sh'.trapped p (is_trap x sh'.trapped (slice_get sh'.stands n) h.answer_is) }
 
 -- ---- own steps and traps
 
@@ -136,10 +153,6 @@ err_is P Q r x h e = subst (λ y. MatchResult y P (λ e. Q)) e h
 
 pub memory_wants : (m : Module) (n : ℕ) (sh sh' : SharedData) (s s' : ThreadData) (result : Result Moved (Or NotReady)) → result ≡ Err WantOfMemory → IsThread m s → (sh' ≡ sh) × (s' ≡ s) → HasAdvanced m n sh sh' s s' result
 memory_wants m n sh sh' s s' result is thread same = subst (HasAdvanced m n sh sh' s s') (sym is) (same.0, (subst (IsThread m) (sym same.1) thread, ap (thread_seen m) same.1))
-
-pub no_wait : (o : Option Trapping) → IsAnswer o Wait → ⊥
-no_wait None a = a
-no_wait (Some t) a = a
 
 -- ---- a step of a team
 

@@ -23,6 +23,7 @@ use Rattle.mem_model.specs.Answers.{IsDone, only_trap}
 use Rattle.mem_model.specs.Thread.{Frame, ThreadState, where_is, given_of, find_in, put_in, load_own, store_own}
 use Rattle.mem_model.specs.Next.{NextStep, Local, Pending, Done, Trapped, with_found, with_number, with_frames, code_on, loads, stores, updates, Event, Does, Deinit, Forks, Arrives, AsksForWork, Leaves, Loads, Stores, Updates, Next, line_at}
 use Rattle.mem_model.specs.Work.{given_work}
+use Rattle.mem_model.specs.declared.step.Barrier.{Barrier}
 use Rattle.mem_model.specs.declared.step.Barrier.TheVariants.{Team as TeamBarrier}
 use Rattle.mem_model.specs.Do.{Effect, Do, stored}
 use Rattle.mem_model.proofs.Runs.{some_injective}
@@ -31,9 +32,7 @@ use Rattle.team_model.specs.Team.{TeamShared, Team, opened, takes_work, happens,
 use Rattle.thread_state.specs.declared.state.ThreadState.{ThreadState as ThreadData}
 use Rattle.thread_state.specs.Seen.{thread_seen, IsThread}
 use Rattle.interp.specs.declared.shared.TeamShared.{TeamShared as SharedData}
-use Rattle.interp.specs.declared.shared.Answer.{Answer}
-use Rattle.interp.specs.declared.shared.Answer.TheVariants.{Trapped as TrapAnswer}
-use Rattle.interp.specs.Events.{shared_seen, by_effect, by_work, made, IsAnswer, IsPending, IsUpdated, Makes}
+use Rattle.interp.specs.Events.{shared_seen, by_effect, by_work, made, IsPending, IsUpdated, Makes}
 
 -- ---- stores that trap
 
@@ -41,9 +40,9 @@ done_err : (r : Result Memory Trap) (old new : Memory) (e : Trap) → IsDone {U 
 done_err (Ok m) old new e h = let q = h.0 in let f : ⊥ = cc in absurd f
 done_err (Err x) old new e h = (ap Err (let q = h.0 in let same : x ≡ e = cc in same), h.1)
 
-pub not_stored : (m : Module) (n line : ℕ) (sh new : SharedData) (s : ThreadData) (at : Ptr) (cell : Cell) (given : Given) (trap : Trap) (answer : Answer) (memory : Memory) → IsThread m s → IsDone {U = Unit {0}} (Store sh.memory at cell given) sh.memory memory (Err trap) →
-    new ≡ record sh { memory = memory; trapped = Some (record { thread = n; line = line; trap = trap }) } → line ≡ line_at m (thread_seen m s) → answer ≡ TrapAnswer trap → Makes m n sh new s s (Does (Stores at cell given)) answer
-not_stored m n line sh new s at cell given trap answer memory is done new_is line_is answer_is =
+pub not_stored : (m : Module) (n line : ℕ) (sh new : SharedData) (s : ThreadData) (at : Ptr) (cell : Cell) (given : Given) (trap : Trap) (memory : Memory) → IsThread m s → IsDone {U = Unit {0}} (Store sh.memory at cell given) sh.memory memory (Err trap) →
+    new ≡ record sh { memory = memory; trapped = Some (record { thread = n; line = line; trap = trap }) } → line ≡ line_at m (thread_seen m s) → Makes m n sh new s s (Does (Stores at cell given))
+not_stored m n line sh new s at cell given trap memory is done new_is line_is =
     let p = done_err (Store sh.memory at cell given) sh.memory memory trap done in
     let fails : made m (shared_seen sh) n (thread_seen m s) (Does (Stores at cell given)) ≡ (record (shared_seen sh) { trapped = Some (record { thread = n; line = line_at m (thread_seen m s); trap = trap }) }, thread_seen m s) =
     ap (λ r. by_effect m (shared_seen sh) n (thread_seen m s) (stored (shared_seen sh).common r)) p.0 in
@@ -54,7 +53,6 @@ not_stored m n line sh new s at cell given trap answer memory is done new_is lin
           ∙ (λ i. record (shared_seen sh) { common = record { memory = p.1 i; heaps = sh.heaps; prints = sh.prints }; trapped = Some (record { thread = n; line = line_is i; trap = trap }) })
           ∙ sym (ap (λ q. q.0) fails);
       state = sym (ap (λ q. q.1) fails);
-      answer_is = subst (λ a. IsAnswer new.trapped a) (sym answer_is) (subst (λ o. IsAnswer o (TrapAnswer trap)) (sym (ap (λ (z : SharedData). z.trapped) new_is)) refl);
       history = ap (λ (z : SharedData). z.history) new_is;
     }
 
@@ -168,6 +166,9 @@ update_event t f rest x width op n (At (Code k) o) e h = pending_same _ e h
 
 pub deinit_event : (e : Event) → Pending Deinit ≡ Pending e → Deinit ≡ e
 deinit_event e h = pending_same Deinit e h
+
+pub arrives_event : (kind : Barrier) (e : Event) → Pending (Arrives kind None) ≡ Pending e → Arrives kind None ≡ e
+arrives_event kind e h = pending_same (Arrives kind None) e h
 
 pub pending_of : (nx : NextStep) → IsPending nx → (e : Event) × (nx ≡ Pending e)
 pending_of (Local u) p = absurd p

@@ -11,6 +11,7 @@ use Rattle.mem_model.specs.Memory.{Memory}
 use Rattle.mem_model.specs.Update.{Updated}
 use Rattle.mem_model.specs.declared.phase.Phase.TheVariants.{Published}
 use Rattle.mem_model.specs.declared.step.Barrier.TheVariants.{Team as TeamBarrier}
+use Rattle.team_model.specs.declared.Stand.{Stand}
 use Rattle.team_model.specs.declared.Stand.TheVariants.{Waits, Ended as Gone}
 use Rattle.team_model.specs.declared.Trapping.{Trapping}
 use Rattle.team_model.specs.Team.{TeamShared, Team, published, opened, slot_after_deinit, TeamStep}
@@ -19,7 +20,7 @@ use Rattle.thread_state.specs.Seen.{thread_seen, IsThread}
 use Rattle.interp_local.specs.Steps.{Knows}
 use Rattle.interp.specs.declared.shared.TeamShared.{TeamShared as SharedData}
 use Rattle.interp.specs.declared.shared.Answer.{Answer}
-use Rattle.interp.specs.declared.shared.Answer.TheVariants.{Went, Trapped}
+use Rattle.interp.specs.declared.shared.Answer.TheVariants.{Went, Wait, Trapped}
 use Rattle.interp.specs.declared.events.Here.{Here}
 
 -- the history is no part of what threads share in the team meaning
@@ -45,10 +46,11 @@ made m sh n t (Arrives kind phase) = (record sh { stands = opened kind t.answers
 made m sh n t AsksForWork = by_work m sh n t (given_work m t sh.slot)
 made m sh n t Leaves = (record sh { stands = opened TeamBarrier 0 (slice_set sh.stands n Gone) }, t)
 
-abbrev pub IsAnswer : Option Trapping → Answer → Type 0
-IsAnswer None Went = Unit {0}
-IsAnswer (Some trapping) (Trapped trap) = trapping.trap ≡ trap
-IsAnswer _ _ = ⊥
+-- what has come of an event, by the trap that has ended the run and how its thread stands
+abbrev pub answer_of : Option Trapping → Option Stand → Answer
+answer_of (Some trapping) stand = Trapped trapping.trap
+answer_of None (Some (Waits kind)) = Wait
+answer_of None stand = Went
 
 abbrev pub IsPending : NextStep → Type 0
 IsPending (Pending e) = Unit {0}
@@ -66,16 +68,15 @@ IsUpdated (Ok u) old new result = (result ≡ Ok u.old) × (new ≡ u.memory)
 IsUpdated (Err trap) old new result = (result ≡ Err trap) × (new ≡ old)
 
 -- an event is made, but for the history
-pub record Makes (m : Module) (n : ℕ) (sh sh' : SharedData) (s s' : ThreadData) (e : Event) (answer : Answer) : Type 0 where
+pub record Makes (m : Module) (n : ℕ) (sh sh' : SharedData) (s s' : ThreadData) (e : Event) : Type 0 where
   pub thread : IsThread m s'
   pub shared : shared_seen sh' ≡ (made m (shared_seen sh) n (thread_seen m s) e).0
   pub state : thread_seen m s' ≡ (made m (shared_seen sh) n (thread_seen m s) e).1
-  pub answer_is : IsAnswer sh'.trapped answer
   pub history : sh'.history ≡ sh.history
 
 -- thread n of any team with this shared part and this state of the thread makes one step, by its event
 pub record HasHappened (m : Module) (n local_steps : ℕ) (sh sh' : SharedData) (s s' : ThreadData) (answer : Answer) : Type 0 where
   pub thread : IsThread m s'
   pub step : (team : Team) → team.shared ≡ shared_seen sh → slice_get team.threads n ≡ Some (thread_seen m s) → TeamStep m team n ≡ Some (record { shared = shared_seen sh'; threads = slice_set team.threads n (thread_seen m s') })
-  pub answer_is : IsAnswer sh'.trapped answer
+  pub answer_is : answer ≡ answer_of sh'.trapped (slice_get sh'.stands n)
   pub history : sh'.history ≡ sh.history ++ record { thread = n; count = local_steps + 1 } ∷ []

@@ -8,14 +8,14 @@ ghost use Rattle.mem_model.specs.Answers.{IsCell, IsOf};
 ghost use Rattle.mem_model.specs.Values.{updated};
 ghost use Rattle.mem_model.specs.Update.{Update};
 ghost use Rattle.mem_model.specs.Thread.{Frame, given_of};
-ghost use Rattle.mem_model.specs.Next.{Event, Does, Deinit, Leaves, Loads, Stores, Updates, Pending, Next};
+ghost use Rattle.mem_model.specs.Next.{Event, Does, Deinit, Arrives, Leaves, Loads, Stores, Updates, Pending, Next};
 ghost use Rattle.thread_state.specs.declared.state.ThreadState.{ThreadState as ThreadData};
 ghost use Rattle.thread_state.specs.Seen.{thread_seen, IsThread};
 ghost use Rattle.thread_state.specs.Moves.{index_of};
 ghost use Rattle.interp_local.specs.Operands.{AreFew};
 ghost use Rattle.interp_local.specs.Actions.{IsAction, IsChange, acted};
 ghost use Rattle.interp_local.specs.Steps.{AreServed};
-ghost use Rattle.interp.specs.Events.{IsHere, IsPending, IsUpdated, Makes, HasHappened};
+ghost use Rattle.interp.specs.Events.{IsHere, IsPending, IsUpdated, Makes, HasHappened, answer_of};
 
 use crate::barriers::open;
 use crate::shared::{Answer, TeamShared};
@@ -35,54 +35,41 @@ struct Here {
 }
 
 /// Ends the run by a trap.
-fn traps(sh: &mut TeamShared, here: Here, trap: Trap) -> Answer
-    ensures new { sh.new ≡ record sh.old { trapped = Some (record { thread = here.thread; line = here.line; trap = trap }) } }
-    ensures answer { result ≡ Answer.Trapped trap }
+fn traps(sh: &mut TeamShared, here: Here, trap: Trap)
+    ensures { sh.new ≡ record sh.old { trapped = Some (record { thread = here.thread; line = here.line; trap = trap }) } }
 {
     sh.trapped = Some(Trapping {
         thread: here.thread,
         line: here.line,
         trap,
     });
-    Answer::Trapped(trap)
 }
 
 /// Loads from shared memory.
-fn load(sh: &mut TeamShared, s: &mut ThreadState, here: Here, at: Ptr, cell: Cell) -> Answer
+fn load(sh: &mut TeamShared, s: &mut ThreadState, here: Here, at: Ptr, cell: Cell)
     requires cell { IsCell cell }
     requires within { index_of s.old + 1 < 2 ^ 64 }
     requires runs { sh.old.trapped ≡ None }
-    ensures { (m : Module) (x : Option Name) (f : Frame) (rest : List Frame) → IsHere m s.old x here f rest → Makes m here.thread sh.old sh.new s.old s.new (Does (Loads at cell)) result }
+    ensures { (m : Module) (x : Option Name) (f : Frame) (rest : List Frame) → IsHere m s.old x here f rest → Makes m here.thread sh.old sh.new s.old s.new (Does (Loads at cell)) }
 {
     match sh.memory.read(&at, cell) {
         Ok(word) => {
             s.go_on(here.register, word);
-            Answer::Went
         }
         Err(trap) => traps(sh, here, trap),
     }
 }
 
 /// Stores in shared memory.
-fn store(
-    sh: &mut TeamShared,
-    s: &mut ThreadState,
-    here: Here,
-    at: Ptr,
-    cell: Cell,
-    word: Word,
-) -> Answer
+fn store(sh: &mut TeamShared, s: &mut ThreadState, here: Here, at: Ptr, cell: Cell, word: Word)
     requires cell { IsCell cell }
     requires word { IsOf cell word }
     requires within { index_of s.old + 1 < 2 ^ 64 }
     requires runs { sh.old.trapped ≡ None }
-    ensures { (m : Module) (x : Option Name) (f : Frame) (rest : List Frame) → IsHere m s.old x here f rest → Makes m here.thread sh.old sh.new s.old s.new (Does (Stores at cell (given_of word))) result }
+    ensures { (m : Module) (x : Option Name) (f : Frame) (rest : List Frame) → IsHere m s.old x here f rest → Makes m here.thread sh.old sh.new s.old s.new (Does (Stores at cell (given_of word))) }
 {
     match sh.memory.write(&at, cell, word) {
-        Ok(()) => {
-            s.go_past();
-            Answer::Went
-        }
+        Ok(()) => s.go_past(),
         Err(trap) => traps(sh, here, trap),
     }
 }
@@ -103,59 +90,81 @@ fn change_at(memory: &mut Memory, at: Ptr, change: Change) -> Result<u64, Trap>
 }
 
 /// Changes a number in shared memory atomically, and goes on with the number that stood there.
-fn update(sh: &mut TeamShared, s: &mut ThreadState, here: Here, at: Ptr, change: Change) -> Answer
+fn update(sh: &mut TeamShared, s: &mut ThreadState, here: Here, at: Ptr, change: Change)
     requires change { IsChange change }
     requires within { index_of s.old + 1 < 2 ^ 64 }
     requires runs { sh.old.trapped ≡ None }
-    ensures { (m : Module) (x : Option Name) (f : Frame) (rest : List Frame) → IsHere m s.old x here f rest → Makes m here.thread sh.old sh.new s.old s.new (Does (Updates at change.width change.op change.number)) result }
+    ensures { (m : Module) (x : Option Name) (f : Frame) (rest : List Frame) → IsHere m s.old x here f rest → Makes m here.thread sh.old sh.new s.old s.new (Does (Updates at change.width change.op change.number)) }
 {
     match change_at(&mut sh.memory, at, change) {
         Ok(old) => {
             s.go_on(here.register, Word::Int(old));
-            Answer::Went
         }
         Err(trap) => traps(sh, here, trap),
     }
 }
 
 /// Ends the work of a generic kernel's team; in SPMD mode it does nothing.
-fn deinit(sh: &mut TeamShared, s: &mut ThreadState) -> Answer
+fn deinit(sh: &mut TeamShared, s: &mut ThreadState)
     requires within { index_of s.old + 1 < 2 ^ 64 }
     requires runs { sh.old.trapped ≡ None }
-    ensures { (m : Module) (n : ℕ) (x : Option Name) (f : Frame) (rest : List Frame) → IsThread m s.old → (thread_seen m s.old).frames ≡ f ∷ rest → Makes m n sh.old sh.new s.old s.new Deinit result }
+    ensures { (m : Module) (n : ℕ) (x : Option Name) (f : Frame) (rest : List Frame) → IsThread m s.old → (thread_seen m s.old).frames ≡ f ∷ rest → Makes m n sh.old sh.new s.old s.new Deinit }
 {
     if s.answers.spmd != 1 {
         sh.slot = None;
     }
     s.go_past();
-    Answer::Went
 }
 
 /// Ends a thread, which may complete the team's barrier.
-fn leave(sh: &mut TeamShared, thread: u32) -> Answer
+fn leave(sh: &mut TeamShared, thread: u32)
     requires there { thread < length sh.old.stands }
     requires runs { sh.old.trapped ≡ None }
-    ensures { (m : Module) (s : ThreadData) → IsThread m s → Makes m thread sh.old sh.new s s Leaves result }
+    ensures { (m : Module) (s : ThreadData) → IsThread m s → Makes m thread sh.old sh.new s s Leaves }
 {
     sh.stands.set(thread as usize, Stand::Ended);
     open(&mut sh.stands, Barrier::Team, 0);
-    Answer::Went
+}
+
+/// Lets a thread wait at a barrier, which opens if it is now complete; behind it the thread goes past its instruction.
+fn arrive(sh: &mut TeamShared, s: &mut ThreadState, thread: u32, kind: Barrier)
+    requires there { thread < length sh.old.stands }
+    requires within { index_of s.old + 1 < 2 ^ 64 }
+    ensures { (m : Module) (f : Frame) (rest : List Frame) → IsThread m s.old → (thread_seen m s.old).frames ≡ f ∷ rest → Makes m thread sh.old sh.new s.old s.new (Arrives kind None) }
+{
+    sh.stands.set(thread as usize, Stand::Waits(kind));
+    open(&mut sh.stands, kind, s.answers.count);
+    s.go_past();
 }
 
 /// Makes the event that an action is.
-fn happen(sh: &mut TeamShared, s: &mut ThreadState, here: Here, action: Action) -> Answer
+fn happen(sh: &mut TeamShared, s: &mut ThreadState, here: Here, action: Action)
     requires action { IsAction action }
     requires within { index_of s.old + 1 < 2 ^ 64 }
     requires runs { sh.old.trapped ≡ None }
     requires there { here.thread < length sh.old.stands }
-    ensures { (m : Module) (x : Option Name) (f : Frame) (rest : List Frame) (args : List Typed) (e : Event) → IsHere m s.old x here f rest → acted m (thread_seen m s.old) f rest x args action ≡ Pending e → Makes m here.thread sh.old sh.new s.old s.new e result }
+    ensures { (m : Module) (x : Option Name) (f : Frame) (rest : List Frame) (args : List Typed) (e : Event) → IsHere m s.old x here f rest → acted m (thread_seen m s.old) f rest x args action ≡ Pending e → Makes m here.thread sh.old sh.new s.old s.new e }
 {
     match action {
         Action::Loads(at, cell) => load(sh, s, here, at, cell),
         Action::Stores(at, cell, word) => store(sh, s, here, at, cell, word),
         Action::Updates(at, change) => update(sh, s, here, at, change),
         Action::Deinit => deinit(sh, s),
+        Action::Arrives(kind) => arrive(sh, s, here.thread, kind),
         Action::Returns(_) => leave(sh, here.thread),
+        _ => {}
+    }
+}
+
+/// What has come of an event of a thread.
+fn answer(sh: &TeamShared, thread: u32) -> Answer
+    ensures { result ≡ answer_of sh.now.trapped (slice_get sh.now.stands thread) }
+{
+    if let Some(trapping) = sh.trapped {
+        return Answer::Trapped(trapping.trap);
+    }
+    match sh.stands.get(thread as usize) {
+        Some(Stand::Waits(_)) => Answer::Wait,
         _ => Answer::Went,
     }
 }
@@ -197,5 +206,6 @@ pub fn event(
         line: inst.line,
         register: result_place(m, s, inst),
     };
-    Ok(happen(sh, s, here, action))
+    happen(sh, s, here, action);
+    Ok(answer(sh, thread))
 }

@@ -125,8 +125,7 @@ fn happen(
     ensures { HasAdvanced m.now thread sh.old sh.new s.old s.new result }
 {
     match event(m, sh, s, thread, 0)? {
-        Answer::Went => Ok(Moved::Event),
-        Answer::Wait => unreachable!(),
+        Answer::Went | Answer::Wait => Ok(Moved::Event),
         Answer::Trapped(_) => Ok(Moved::Trapped),
     }
 }

@@ -44,7 +44,7 @@ returns c =
     record {
       thread = makes.thread;
       step = team_step m c.args.thread (shared_seen sh) (shared_seen c.happen.new.sh) (thread_seen m s) (thread_seen m c.happen.new.s) p.0 p.1 c.requires.goes c.requires.runs makes.shared makes.state;
-      answer_is = makes.answer_is;
+      answer_is = c.answer.ensures;
       history = makes.history ∙ c.in_ok-push.ensures.ok;
     }
 

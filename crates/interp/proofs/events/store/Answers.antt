@@ -4,4 +4,4 @@ use Rattle.interp.proofs.events.store.Goals as goal
 
 pub returns-in-Err : goal.returns-in-Err
 returns-in-Err c = λ m x f rest here.
-    not_stored m c.args.here.thread c.args.here.line c.args.sh.now c.traps.new.sh c.args.s.now c.args.at c.args.cell (given_of c.args.word) c.in-Err.trap c.traps.result c.write.new.self here.knows.is c.in-Err.ensures c.traps.ensures.new here.line c.traps.ensures.answer
+    not_stored m c.args.here.thread c.args.here.line c.args.sh.now c.traps.new.sh c.args.s.now c.args.at c.args.cell (given_of c.args.word) c.in-Err.trap c.write.new.self here.knows.is c.in-Err.ensures c.traps.ensures here.line
