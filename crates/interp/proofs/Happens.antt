@@ -21,7 +21,7 @@ use Rattle.mem_model.specs.Values.{updated}
 use Rattle.mem_model.specs.Update.{Updated, update_number, update_at, Update}
 use Rattle.mem_model.specs.Answers.{IsDone, only_trap}
 use Rattle.mem_model.specs.Thread.{Frame, ThreadState, where_is, given_of, find_in, put_in, load_own, store_own}
-use Rattle.mem_model.specs.Next.{NextStep, Local, Pending, Done, Trapped, with_found, with_number, with_frames, code_on, loads, stores, updates, Event, Does, Deinit, Forks, Arrives, AsksForWork, Leaves, Loads, Stores, Updates, Next, line_at}
+use Rattle.mem_model.specs.Next.{NextStep, Local, Pending, Done, Trapped, with_found, with_number, with_frames, code_on, loads, stores, updates, Event, Does, Deinit, Forks, Arrives, AsksForWork, Leaves, Loads, Stores, Updates, Prints, Next, line_at}
 use Rattle.mem_model.specs.Work.{given_work}
 use Rattle.mem_model.specs.declared.step.Barrier.{Barrier}
 use Rattle.mem_model.specs.declared.step.Barrier.TheVariants.{Team as TeamBarrier}
@@ -32,7 +32,7 @@ use Rattle.team_model.specs.Team.{TeamShared, Team, opened, takes_work, happens,
 use Rattle.thread_state.specs.declared.state.ThreadState.{ThreadState as ThreadData}
 use Rattle.thread_state.specs.Seen.{thread_seen, IsThread}
 use Rattle.interp.specs.declared.shared.TeamShared.{TeamShared as SharedData}
-use Rattle.interp.specs.Events.{shared_seen, by_effect, by_work, made, IsPending, IsUpdated, Makes}
+use Rattle.interp.specs.Events.{shared_seen, by_effect, by_work, made, IsPending, IsUpdated, Makes, IsMadeOrSame}
 
 -- ---- stores that trap
 
@@ -119,7 +119,7 @@ updated_trap r old new e result is same result_is = subst (λ x. IsUpdated x old
 
 -- ---- which event an action is
 
-not_pending : {A : Type 0} (r : Result A Trap) (go : A → ThreadState) (e : Event) → with_found r (λ a. Local (go a)) ≡ Pending e → ⊥
+pub not_pending : {A : Type 0} (r : Result A Trap) (go : A → ThreadState) (e : Event) → with_found r (λ a. Local (go a)) ≡ Pending e → ⊥
 not_pending (Err x) go e h = let f : ⊥ = cc in f
 not_pending (Ok a) go e h = let f : ⊥ = cc in f
 
@@ -170,6 +170,9 @@ deinit_event e h = pending_same Deinit e h
 pub arrives_event : (kind : Barrier) (e : Event) → Pending (Arrives kind None) ≡ Pending e → Arrives kind None ≡ e
 arrives_event kind e h = pending_same (Arrives kind None) e h
 
+pub prints_event : (n : ℕ) (e : Event) → Pending (Does (Prints n)) ≡ Pending e → Does (Prints n) ≡ e
+prints_event n e h = pending_same (Does (Prints n)) e h
+
 pub pending_of : (nx : NextStep) → IsPending nx → (e : Event) × (nx ≡ Pending e)
 pending_of (Local u) p = absurd p
 pending_of (Pending e) p = (e, refl)
@@ -213,3 +216,11 @@ team_step m n sh sh' t t' e next none runs shared state team is there =
     ∙ ap (by_thread m team n) there
     ∙ ap (by_next m team n t) next
     ∙ ap Some (happens_is m team n t e there ∙ (λ i. with_made team n (made m (is i) n t e)) ∙ (λ i. record { shared = sym shared i; threads = slice_set team.threads n (sym state i) }))
+
+-- ---- what a call that may want memory has made
+
+pub made_ok : {U E : Type 0} (m : Module) (n : ℕ) (sh sh' : SharedData) (s s' : ThreadData) (e : Event) (r : Result U E) {u : U} → r ≡ Ok u → IsMadeOrSame m n sh sh' s s' e r → Makes m n sh sh' s s' e
+made_ok m n sh sh' s s' e r is h = subst (IsMadeOrSame m n sh sh' s s' e) is h
+
+pub made_err : {U E : Type 0} (m : Module) (n : ℕ) (sh sh' : SharedData) (s s' : ThreadData) (e : Event) (r : Result U E) (x : E) → r ≡ Err x → IsMadeOrSame m n sh sh' s s' e r → (sh' ≡ sh) × (s' ≡ s)
+made_err m n sh sh' s s' e r x is h = subst (IsMadeOrSame m n sh sh' s s' e) is h

@@ -1,4 +1,6 @@
 pub mod Advance
 pub mod Happens
-pub mod Started
 pub mod Mapped
+pub mod Quiet
+pub mod Recorded
+pub mod Started

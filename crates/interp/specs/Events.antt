@@ -17,6 +17,8 @@ use Rattle.team_model.specs.declared.Trapping.{Trapping}
 use Rattle.team_model.specs.Team.{TeamShared, Team, published, opened, slot_after_deinit, TeamStep}
 use Rattle.thread_state.specs.declared.state.ThreadState.{ThreadState as ThreadData}
 use Rattle.thread_state.specs.Seen.{thread_seen, IsThread}
+use Rattle.interp_local.specs.declared.actions.Action.{Action}
+use Rattle.interp_local.specs.declared.actions.Action.TheVariants.{Prints}
 use Rattle.interp_local.specs.Steps.{Knows}
 use Rattle.interp.specs.declared.shared.TeamShared.{TeamShared as SharedData}
 use Rattle.interp.specs.declared.shared.Answer.{Answer}
@@ -73,6 +75,16 @@ pub record Makes (m : Module) (n : ℕ) (sh sh' : SharedData) (s s' : ThreadData
   pub shared : shared_seen sh' ≡ (made m (shared_seen sh) n (thread_seen m s) e).0
   pub state : thread_seen m s' ≡ (made m (shared_seen sh) n (thread_seen m s) e).1
   pub history : sh'.history ≡ sh.history
+
+-- the event is made, or memory was wanting and all is as it was
+abbrev pub IsMadeOrSame : {U E : Type 0} → Module → ℕ → SharedData → SharedData → ThreadData → ThreadData → Event → Result U E → Type 0
+IsMadeOrSame m n sh sh' s s' e (Ok u) = Makes m n sh sh' s s' e
+IsMadeOrSame m n sh sh' s s' e (Err x) = (sh' ≡ sh) × (s' ≡ s)
+
+-- prints a number, which takes memory
+abbrev pub IsPrint : Action → Type 0
+IsPrint (Prints n) = Unit {0}
+IsPrint _ = ⊥
 
 -- thread n of any team with this shared part and this state of the thread makes one step, by its event
 pub record HasHappened (m : Module) (n local_steps : ℕ) (sh sh' : SharedData) (s s' : ThreadData) (answer : Answer) : Type 0 where

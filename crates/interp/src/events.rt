@@ -8,14 +8,14 @@ ghost use Rattle.mem_model.specs.Answers.{IsCell, IsOf};
 ghost use Rattle.mem_model.specs.Values.{updated};
 ghost use Rattle.mem_model.specs.Update.{Update};
 ghost use Rattle.mem_model.specs.Thread.{Frame, given_of};
-ghost use Rattle.mem_model.specs.Next.{Event, Does, Deinit, Arrives, Leaves, Loads, Stores, Updates, Pending, Next};
+ghost use Rattle.mem_model.specs.Next.{Event, Does, Deinit, Arrives, Prints, Leaves, Loads, Stores, Updates, Pending, Next};
 ghost use Rattle.thread_state.specs.declared.state.ThreadState.{ThreadState as ThreadData};
 ghost use Rattle.thread_state.specs.Seen.{thread_seen, IsThread};
 ghost use Rattle.thread_state.specs.Moves.{index_of};
 ghost use Rattle.interp_local.specs.Operands.{AreFew};
 ghost use Rattle.interp_local.specs.Actions.{IsAction, IsChange, acted};
 ghost use Rattle.interp_local.specs.Steps.{AreServed};
-ghost use Rattle.interp.specs.Events.{IsHere, IsPending, IsUpdated, Makes, HasHappened, answer_of};
+ghost use Rattle.interp.specs.Events.{IsHere, IsPending, IsUpdated, Makes, IsPrint, IsMadeOrSame, HasHappened, answer_of};
 
 use crate::barriers::open;
 use crate::shared::{Answer, TeamShared};
@@ -137,9 +137,21 @@ fn arrive(sh: &mut TeamShared, s: &mut ThreadState, thread: u32, kind: Barrier)
     s.go_past();
 }
 
-/// Makes the event that an action is.
-fn happen(sh: &mut TeamShared, s: &mut ThreadState, here: Here, action: Action)
+/// Prints a number.
+fn print(sh: &mut TeamShared, s: &mut ThreadState, number: u64) -> Result<(), OutOfMemory>
+    requires within { index_of s.old + 1 < 2 ^ 64 }
+    requires runs { sh.old.trapped ≡ None }
+    ensures { (m : Module) (n : ℕ) (f : Frame) (rest : List Frame) → IsThread m s.old → (thread_seen m s.old).frames ≡ f ∷ rest → IsMadeOrSame m n sh.old sh.new s.old s.new (Does (Prints number)) result }
+{
+    sh.prints.push(number)?;
+    s.go_past();
+    Ok(())
+}
+
+/// Makes the event that an action is, which is no print.
+fn change(sh: &mut TeamShared, s: &mut ThreadState, here: Here, action: Action)
     requires action { IsAction action }
+    requires other { IsPrint action → ⊥ }
     requires within { index_of s.old + 1 < 2 ^ 64 }
     requires runs { sh.old.trapped ≡ None }
     requires there { here.thread < length sh.old.stands }
@@ -152,7 +164,30 @@ fn happen(sh: &mut TeamShared, s: &mut ThreadState, here: Here, action: Action)
         Action::Deinit => deinit(sh, s),
         Action::Arrives(kind) => arrive(sh, s, here.thread, kind),
         Action::Returns(_) => leave(sh, here.thread),
+        Action::Prints(_) => unreachable!(),
         _ => {}
+    }
+}
+
+/// Makes the event that an action is. `OutOfMemory` where no memory was left for a printed number; then all is as it was.
+fn happen(
+    sh: &mut TeamShared,
+    s: &mut ThreadState,
+    here: Here,
+    action: Action,
+) -> Result<(), OutOfMemory>
+    requires action { IsAction action }
+    requires within { index_of s.old + 1 < 2 ^ 64 }
+    requires runs { sh.old.trapped ≡ None }
+    requires there { here.thread < length sh.old.stands }
+    ensures { (m : Module) (x : Option Name) (f : Frame) (rest : List Frame) (args : List Typed) (e : Event) → IsHere m s.old x here f rest → acted m (thread_seen m s.old) f rest x args action ≡ Pending e → IsMadeOrSame m here.thread sh.old sh.new s.old s.new e result }
+{
+    match action {
+        Action::Prints(number) => print(sh, s, number),
+        _ => {
+            change(sh, s, here, action);
+            Ok(())
+        }
     }
 }
 
@@ -206,6 +241,11 @@ pub fn event(
         line: inst.line,
         register: result_place(m, s, inst),
     };
-    happen(sh, s, here, action);
-    Ok(answer(sh, thread))
+    match happen(sh, s, here, action) {
+        Ok(()) => Ok(answer(sh, thread)),
+        Err(OutOfMemory) => {
+            sh.history.pop();
+            Err(OutOfMemory)
+        }
+    }
 }

@@ -162,6 +162,15 @@ module _ (m : Module) (t : ThreadState) (f : Frame) (rest : List Frame) (x : Opt
   shares_by (Address p ∷ b ∷ c ∷ more) = refl
   shares_by (Int n ∷ b ∷ c ∷ more) = refl
 
+  prints_by : (words : List Word) → D (known_action t.own t.answers Print (words_given words)) ≡ next_known t f rest x Print words
+  prints_by [] = refl
+  prints_by (Address p ∷ []) = refl
+  prints_by (Int n ∷ []) = refl
+  prints_by (Address p ∷ b ∷ []) = refl
+  prints_by (Int n ∷ b ∷ []) = refl
+  prints_by (Address p ∷ b ∷ c ∷ more) = refl
+  prints_by (Int n ∷ b ∷ c ∷ more) = refl
+
   known_by : (r : Rtl) → ((words : List Word) → D (known_action t.own t.answers r (words_given words)) ≡ next_known t f rest x r words) → D (and_then (operand_words m f.code.registers args) (λ words. known_action t.own t.answers r (words_given words))) ≡ with_found (operand_words m f.code.registers args) (next_known t f rest x r)
   known_by r h = d_then (operand_words m f.code.registers args) (λ words. known_action t.own t.answers r (words_given words)) (next_known t f rest x r) h
 
@@ -177,7 +186,7 @@ module _ (m : Module) (t : ThreadState) (f : Frame) (rest : List Frame) (x : Opt
   entry_by AllocShared is = absurd is
   entry_by FreeShared is = absurd is
   entry_by ForStaticInit is = absurd is
-  entry_by Print is = absurd is
+  entry_by Print is = known_by Print prints_by
   entry_by KernelParallel is = absurd is
   entry_by GetSharedVariables is = known_by GetSharedVariables shares_by
   entry_by RegionBarrier is = known_by RegionBarrier (λ words. meets_by (t.answers.level == 0))

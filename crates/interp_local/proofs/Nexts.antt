@@ -8,7 +8,7 @@ use Rattle.ir_core.specs.declared.instructions.Kind.TheVariants.{Bin, ICmp, Cast
 use Rattle.ir_core.specs.declared.instructions.Typed.{Typed}
 use Rattle.ir_core.specs.declared.instructions.Inst.{Inst}
 use Rattle.ir_core.specs.declared.module.Module.{Module}
-use Rattle.ir_core.specs.declared.rtl.Rtl.TheVariants.{TargetInit, TargetDeinit, GetSharedVariables, Barrier as RegionBarrier, GlobalThreadNum, ThreadNum, NumThreads, Level, ParallelLevel, InParallel, IsSpmdExecMode, ForStaticFini, KernelEndParallel, SpmdBarrier, GenericBarrier, HardwareThreadId}
+use Rattle.ir_core.specs.declared.rtl.Rtl.TheVariants.{TargetInit, TargetDeinit, GetSharedVariables, Barrier as RegionBarrier, GlobalThreadNum, ThreadNum, NumThreads, Level, ParallelLevel, InParallel, IsSpmdExecMode, ForStaticFini, Print, KernelEndParallel, SpmdBarrier, GenericBarrier, HardwareThreadId}
 use Rattle.mem_model.specs.declared.step.Barrier.TheVariants.{Explicit}
 use Rattle.mem_model.specs.declared.memory.Word.TheVariants.{Int, Ptr as Address}
 use Rattle.ir_core.specs.declared.answers.Or.{Or}
@@ -128,6 +128,13 @@ p_share own a (One (Int n)) = tt
 p_share own a (Two v w) = tt
 p_share own a More = tt
 
+p_print : (own : ℕ) (a : Answers) (words : Words) → OkTakes ⊥ (known_action own a Print words)
+p_print own a Nothing = tt
+p_print own a (One (Address p)) = tt
+p_print own a (One (Int n)) = λ t. absurd t
+p_print own a (Two v w) = tt
+p_print own a More = tt
+
 p_meets : (b : Bool) → OkTakes ⊥ (Ok (if b then Action.Passes else Action.Arrives Explicit))
 p_meets true = λ t. absurd t
 p_meets false = λ t. absurd t
@@ -143,6 +150,7 @@ p_known own a ParallelLevel words = λ t. absurd t
 p_known own a InParallel words = λ t. absurd t
 p_known own a IsSpmdExecMode words = λ t. absurd t
 p_known own a ForStaticFini words = λ t. absurd t
+p_known own a Print words = p_print own a words
 p_known own a KernelEndParallel words = λ t. absurd t
 p_known own a SpmdBarrier words = λ t. absurd t
 p_known own a GenericBarrier words = λ t. absurd t

@@ -8,7 +8,7 @@ use Rattle.ir_core.specs.declared.instructions.Kind.{Kind}
 use Rattle.ir_core.specs.declared.instructions.Kind.TheVariants.{Bin, ICmp, Cast, Select, Alloca, Load as LoadInst, Store as StoreInst, Rmw, Gep, Fence, Call, Br, CondBr, Switch, Ret}
 use Rattle.ir_core.specs.declared.module.Module.{Module}
 use Rattle.ir_core.specs.declared.rtl.Rtl.{Rtl}
-use Rattle.ir_core.specs.declared.rtl.Rtl.TheVariants.{TargetInit, TargetDeinit, GetSharedVariables, Barrier as RegionBarrier, GlobalThreadNum, ThreadNum, NumThreads, Level, ParallelLevel, InParallel, IsSpmdExecMode, ForStaticFini, KernelEndParallel, SpmdBarrier, GenericBarrier, HardwareThreadId}
+use Rattle.ir_core.specs.declared.rtl.Rtl.TheVariants.{TargetInit, TargetDeinit, GetSharedVariables, Barrier as RegionBarrier, GlobalThreadNum, ThreadNum, NumThreads, Level, ParallelLevel, InParallel, IsSpmdExecMode, ForStaticFini, Print, KernelEndParallel, SpmdBarrier, GenericBarrier, HardwareThreadId}
 use Rattle.ir_core.specs.FirstForm.{is_width}
 use Rattle.ir_core.specs.Places.{labels, place_in}
 use Rattle.ir_core.specs.Layout.{Size}
@@ -22,12 +22,12 @@ use Rattle.mem_model.specs.Answers.{IsCell, IsOf}
 use Rattle.mem_model.specs.Thread.{Name, Registers, Answers, Frame, ThreadState, where_is, outside_region}
 use Rattle.mem_model.specs.Values.{width_of, value_word, operand, and_then, operand_words}
 use Rattle.mem_model.specs.Entries.{one_if, is_parallel, gets_shared}
-use Rattle.mem_model.specs.Next.{NextStep, Local, Pending, Trapped, Deinit as DeinitEvent, Arrives as ArrivesAt, goes_on, goes_past, loads, stores, updates, allocates, case_for, to_block, Callee, CallsEntry, CallsFunction, CallsOther, defined_at, callee_of, next_call, returns}
+use Rattle.mem_model.specs.Next.{NextStep, Local, Pending, Trapped, Deinit as DeinitEvent, Does, Prints as PrintsNumber, Arrives as ArrivesAt, goes_on, goes_past, loads, stores, updates, allocates, case_for, to_block, Callee, CallsEntry, CallsFunction, CallsOther, defined_at, callee_of, next_call, returns}
 use Rattle.thread_state.specs.declared.state.Frame.{Frame as FrameData}
 use Rattle.thread_state.specs.declared.state.ThreadState.{ThreadState as ThreadData}
 use Rattle.interp_local.specs.declared.actions.Change.{Change}
 use Rattle.interp_local.specs.declared.actions.Action.{Action}
-use Rattle.interp_local.specs.declared.actions.Action.TheVariants.{Gives, Passes, Loads, Stores, Updates, Allocates, Shares, Outside, Arrives, Deinit, Calls, Jumps, Returns}
+use Rattle.interp_local.specs.declared.actions.Action.TheVariants.{Gives, Passes, Loads, Stores, Updates, Allocates, Shares, Outside, Arrives, Prints, Deinit, Calls, Jumps, Returns}
 use Rattle.interp_local.specs.declared.actions.Words.{Words}
 use Rattle.interp_local.specs.declared.actions.Words.TheVariants.{Nothing, One, Two, More}
 use Rattle.interp_local.specs.Operands.{number, pointer, cell, or_unreachable, binary, comparison, conversion, selection, element}
@@ -68,6 +68,7 @@ known_action own a ParallelLevel words = Ok (Gives (Int a.level))
 known_action own a InParallel words = Ok (Gives (Int (one_if (is_parallel a))))
 known_action own a IsSpmdExecMode words = Ok (Gives (Int a.spmd))
 known_action own a ForStaticFini words = Ok Passes
+known_action own a Print (One (Int n)) = Ok (Prints n)
 known_action own a KernelEndParallel words = Ok Outside
 known_action own a SpmdBarrier words = Ok (Arrives Guard)
 known_action own a GenericBarrier words = Ok (Arrives TeamBarrier)
@@ -162,6 +163,7 @@ acted m t f rest x args (Allocates size) = allocates t f rest x size
 acted m t f rest x args (Shares at) = gets_shared t f rest at
 acted m t f rest x args Outside = Local (record (goes_past t f rest) { answers = outside_region t })
 acted m t f rest x args (Arrives kind) = Pending (ArrivesAt kind None)
+acted m t f rest x args (Prints n) = Pending (Does (PrintsNumber n))
 acted m t f rest x args Deinit = Pending DeinitEvent
 acted m t f rest x args (Calls k) = next_call m t f rest x args (defined_at m (Some k))
 acted m t f rest x args (Jumps b) = to_block m t f rest (Some b)

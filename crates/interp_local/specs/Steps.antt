@@ -2,7 +2,7 @@
 use Rattle.std.specs.Prelude.{◌≡◌, ℕ, List, [], ◌∷◌, reverse, false, Option, Some, None, Result, Ok, Err}
 use Rattle.ir_core.specs.declared.instructions.Inst.{Inst}
 use Rattle.ir_core.specs.declared.instructions.Typed.{Typed}
-use Rattle.ir_core.specs.declared.rtl.Rtl.TheVariants.{TargetInit, Parallel, AllocShared, FreeShared, ForStaticInit, Print, KernelParallel}
+use Rattle.ir_core.specs.declared.rtl.Rtl.TheVariants.{TargetInit, Parallel, AllocShared, FreeShared, ForStaticInit, KernelParallel}
 use Rattle.ir_core.specs.declared.instructions.Kind.{Kind}
 use Rattle.ir_core.specs.declared.instructions.Kind.TheVariants.{Alloca, Gep, Call}
 use Rattle.ir_core.specs.declared.module.Module.{Module}
@@ -87,7 +87,7 @@ IsNext m old new result = IsTried (StandsAtTaking m (thread_seen m old)) m old n
 
 -- ---- modules that are served
 
--- the entry points that are run by now: not the runtime's own loop, forks, allocations, releases, static schedules, prints, and questions
+-- the entry points that are run by now: not the runtime's own loop, forks, allocations, releases, static schedules, and questions
 -- for published work
 abbrev pub IsRun : List Typed → Callee → Type 0
 IsRun operands (CallsEntry TargetInit) = runs_loop operands ≡ false
@@ -95,7 +95,6 @@ IsRun operands (CallsEntry Parallel) = ⊥
 IsRun operands (CallsEntry AllocShared) = ⊥
 IsRun operands (CallsEntry FreeShared) = ⊥
 IsRun operands (CallsEntry ForStaticInit) = ⊥
-IsRun operands (CallsEntry Print) = ⊥
 IsRun operands (CallsEntry KernelParallel) = ⊥
 IsRun operands _ = Unit {0}
 

@@ -48,6 +48,8 @@ pub enum Action {
     Outside,
     /// Waits at a barrier, and then goes on behind the instruction.
     Arrives(Barrier),
+    /// Prints a number, and goes on behind the instruction.
+    Prints(u64),
     /// Calls `__kmpc_target_deinit`.
     Deinit,
     /// Calls the function at this place of the module.
@@ -169,6 +171,17 @@ fn share(words: Words) -> Result<Action, Trap>
     }
 }
 
+/// Prints the operand.
+fn print(words: Words) -> Result<Action, Trap>
+    ensures value { (own : ℕ) (answers : SpecAnswers) → result ≡ known_action own answers Rtl.Print words }
+    ensures is { IfOk result IsAction }
+{
+    match words {
+        Words::One(Word::Int(number)) => Ok(Action::Prints(number)),
+        _ => Err(Trap::Unreachable),
+    }
+}
+
 /// Comes to an explicit barrier: outside of a region it is nothing.
 fn meet(level: u32) -> Action
     ensures { result ≡ (if level == 0 then Action.Passes else Action.Arrives Barrier.Explicit) }
@@ -209,6 +222,7 @@ fn known(s: &ThreadState, entry: Rtl, words: Words) -> Result<Action, Trap>
         Rtl::InParallel => Ok(answer(u32::from(is_parallel(answers)))),
         Rtl::IsSpmdExecMode => Ok(answer(answers.spmd)),
         Rtl::ForStaticFini => Ok(Action::Passes),
+        Rtl::Print => print(words),
         Rtl::KernelEndParallel => Ok(Action::Outside),
         Rtl::SpmdBarrier => Ok(Action::Arrives(Barrier::Guard)),
         Rtl::GenericBarrier => Ok(Action::Arrives(Barrier::Team)),

@@ -149,7 +149,7 @@ fn look_at(m: &Indexed, s: &ThreadState, inst: &Inst, action: Action) -> Stepped
         Action::Loads(at, cell) => look_load(s, at, cell),
         Action::Stores(at, cell, _) => look_store(s, at, cell),
         Action::Shares(at) => look_share(s, at),
-        Action::Deinit | Action::Arrives(_) => Ok(Own::Event),
+        Action::Deinit | Action::Arrives(_) | Action::Prints(_) => Ok(Own::Event),
         Action::Jumps(block) => look_jump(m, s, block),
         Action::Returns(_) => Ok(look_return(s)),
         Action::Updates(at, change) => look_update(s, at, change),

@@ -266,7 +266,7 @@ fn perform_own(m: &Indexed, s: &mut ThreadState, register: Option<usize>, action
             leave_region(s);
             Ok(Own::Went)
         }
-        Action::Deinit | Action::Arrives(_) => Ok(Own::Event),
+        Action::Deinit | Action::Arrives(_) | Action::Prints(_) => Ok(Own::Event),
         Action::Jumps(block) => jump(m, s, block),
         Action::Returns(word) => Ok(return_to(m, s, word)),
         Action::Calls(_) | Action::Allocates(_) => unreachable!(),

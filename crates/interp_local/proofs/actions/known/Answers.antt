@@ -8,3 +8,9 @@ returns-in-GetSharedVariables-clause-value c =
     let own = c.args.s.now.own in
     let a = answers_seen c.args.s.now.answers in
     c.share.ensures.value own a ∙ ap (λ entry. known_action own a entry c.args.words) (sym c.in-GetSharedVariables.is)
+
+pub returns-in-Print-clause-value : goal.returns-in-Print-clause-value
+returns-in-Print-clause-value c =
+    let own = c.args.s.now.own in
+    let a = answers_seen c.args.s.now.answers in
+    c.print.ensures.value own a ∙ ap (λ entry. known_action own a entry c.args.words) (sym c.in-Print.is)
