@@ -41,6 +41,13 @@ impl<'m> Model for Facts<'m> {
     ghost invariant = { λ f. (f.indexed.now ≡ f.pointers) × AreMarks f.pointers f.rows.effects f.rows.alone f.rows.guarded };
 }
 
+/// Whether an instruction of the function at a place has an effect, or calls a function with a mark.
+fn acts(pointers: &Pointers, m: &Indexed, alone: &[bool], function: usize, inst: &Inst) -> bool
+    ensures { (result ≡ true) ↔ (HasEffect pointers.now function inst.now ⊎ CallsMarked m.now alone.now inst.now) }
+{
+    has_effect(pointers, function, inst) || calls_marked(m, alone, inst)
+}
+
 impl<'m> Facts<'m> {
     /// The effects of the module: a pass over its instructions for those of each function, and rows by what functions reach.
     /// `OutOfMemory` where no memory was left, or where more registers than 2^64-1 are to be counted.
@@ -86,17 +93,16 @@ impl<'m> Facts<'m> {
     {
         match inst_at(self.indexed.module(), function, block, index) {
             Some(inst) => {
-                is_marked(self.rows.guarded.as_slice(), function) && self.acts(function, inst)
+                is_marked(self.rows.guarded.as_slice(), function)
+                    && acts(
+                        &self.pointers,
+                        self.indexed,
+                        self.rows.alone.as_slice(),
+                        function,
+                        inst,
+                    )
             }
             None => false,
         }
-    }
-
-    /// Whether an instruction of the function at a place has an effect, or calls a function that has one and reaches no region.
-    fn acts(&self, function: usize, inst: &Inst) -> bool
-        ensures { (result ≡ true) ↔ (HasEffect self.now function inst.now ⊎ CallsMarked self.now self.inside.rows.alone inst.now) }
-    {
-        has_effect(&self.pointers, function, inst)
-            || calls_marked(self.indexed, self.rows.alone.as_slice(), inst)
     }
 }
