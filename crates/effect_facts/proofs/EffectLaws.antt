@@ -1,6 +1,7 @@
 -- What the marks of instructions and of functions say.
-use Rattle.std.proofs.Common.{◌≡◌, ◌↔◌, ◌⊎◌, ℕ, ◌<◌, List, [], ◌∷◌, length, Bool, true, Some, None, slice_get, inl, inr, sym, ap, subst, ◌∙◌}
+use Rattle.std.proofs.Common.{◌≡◌, ◌↔◌, ◌⊎◌, ℕ, ◌+◌, ◌<◌, List, [], ◌∷◌, length, Bool, true, Some, None, slice_get, inl, inr, sym, ap, subst, ◌∙◌, arith}
 use Rattle.std.specs.List.{flat_map}
+use Rattle.std.proofs.lemmas.Bool.{cases_eq}
 use Rattle.std.proofs.lemmas.Option.{none-some, same_Some, slice_get_within}
 use Rattle.ir_core.specs.declared.instructions.Typed.{Typed}
 use Rattle.ir_core.specs.declared.instructions.Kind.{Kind}
@@ -14,6 +15,7 @@ use Rattle.shapes.specs.CallPaths.{Calls, IsKernelAt}
 use Rattle.shapes.specs.Facts.{insts_of}
 use Rattle.shapes.specs.Insts.{block_insts}
 use Rattle.shapes.specs.KernelShape.{is_kernel}
+use Rattle.call_graph.proofs.ListLaws.{joined_has}
 use Rattle.call_paths.specs.Known.{IsRowOf}
 use Rattle.call_paths.proofs.RegionLaws.{reaching_within}
 use Rattle.value_facts.specs.Effects.{Accesses, AccessesOther, HasEffect, SharedEffect, IsGuarded}
@@ -82,3 +84,17 @@ guarded_within m at (inr r) = reaching_within m at r.1
 
 pub row_read : (Holds : ℕ → Type 0) (row : List Bool) → IsRowOf Holds row → (at : ℕ) (mark : Bool) → (mark ≡ true) ↔ (slice_get row at ≡ Some true) → (mark ≡ true) ↔ Holds at
 row_read Holds row are at mark is = (λ e. (are at).0 (is.0 e), λ h. is.1 ((are at).1 h))
+
+-- ---- items seen one by one
+
+-- one more item that has not the property
+pub none_more : {A : Type 0} (P : A → Type 0) (xs : List A) (n : ℕ) (x : A) → slice_get xs n ≡ Some x → (P x → ⊥) → ((y : A) (k : ℕ) → k < n → slice_get xs k ≡ Some y → P y → ⊥)
+    → (y : A) (k : ℕ) → k < n + 1 → slice_get xs k ≡ Some y → P y → ⊥
+none_more {A} P xs n x there not before y k low at h = either (cases_eq k n) where
+  either : (k ≡ n) ⊎ (k ≡ n → ⊥) → ⊥
+  either (inl e) = let same : y ≡ x = same_Some y x (sym (ap (slice_get xs) (sym e) ∙ at) ∙ there) in not (subst P same h)
+  either (inr other) = before y k (omega (arith, low, other)) at h
+
+-- an instruction of a block is one of the function
+pub one_in_function : (m : Module) (at : ℕ) (f : Function) (b : Block) (n : ℕ) → slice_get f.blocks n ≡ Some b → OneHasEffect m at b.insts → OneHasEffect m at (insts_of f)
+one_in_function m at f b n there h = let a = joined_has block_insts f.blocks b h.0 (n, there) (h.1, h.2) in (h.0, a.0, a.1, h.3)
