@@ -1,6 +1,5 @@
 -- What the marks of instructions and of functions say.
-use Rattle.std.proofs.Common.{◌≡◌, ◌↔◌, ◌⊎◌, ℕ, ◌+◌, ◌<◌, List, [], ◌∷◌, length, Bool, true, Some, None, slice_get, inl, inr, sym, ap, subst, ◌∙◌, arith}
-use Rattle.std.specs.List.{flat_map}
+use Rattle.std.proofs.Common.{◌≡◌, ◌↔◌, ◌⊎◌, ℕ, ◌+◌, ◌<◌, List, [], ◌∷◌, length, Bool, true, Some, slice_get, inl, inr, sym, ap, subst, ◌∙◌, arith}
 use Rattle.std.proofs.lemmas.Bool.{cases_eq}
 use Rattle.std.proofs.lemmas.Option.{none-some, same_Some, slice_get_within}
 use Rattle.ir_core.specs.declared.instructions.Typed.{Typed}
@@ -18,7 +17,7 @@ use Rattle.shapes.specs.KernelShape.{is_kernel}
 use Rattle.call_graph.proofs.ListLaws.{joined_has}
 use Rattle.call_paths.specs.Known.{IsRowOf}
 use Rattle.call_paths.proofs.RegionLaws.{reaching_within}
-use Rattle.value_facts.specs.Effects.{Accesses, AccessesOther, HasEffect, SharedEffect, IsGuarded}
+use Rattle.value_facts.specs.Effects.{Accesses, AccessesOther, SharedEffect, IsGuarded}
 use Rattle.value_facts.specs.Pointers.{spot, MayBeOther}
 use Rattle.effect_facts.specs.Marks.{accessed, OneHasEffect, HasOwnEffect, ReachesMark, HasEffectAlone}
 

@@ -18,7 +18,9 @@ fn accessed(kind: &Kind) -> Option<&Typed>
     match kind {
         Kind::Store { at, .. } => Some(at),
         Kind::Load {
-            at, order: Some(_), ..
+            at,
+            order: Some(_),
+            ..
         } => Some(at),
         Kind::Rmw { at, .. } => Some(at),
         _ => None,

@@ -1,4 +1,4 @@
-use Rattle.std.proofs.Common.{◌≡◌, ◌↔◌, ◌<◌, List, Some, true, ap, length, refl, subst, slice_get, arith}
+use Rattle.std.proofs.Common.{◌≡◌, ◌↔◌, List, Some, true, ap, length, refl, subst, slice_get, arith}
 use Rattle.std.proofs.lemmas.Option.{slice_get_within}
 use Rattle.ir_core.specs.declared.instructions.Inst.{Inst}
 use Rattle.ir_core.specs.declared.module.Block.{Block}
@@ -34,11 +34,10 @@ loop-block-preserved c =
 pub returns : goal.returns
 returns c =
     let f = c.args.f.now in
-    let size = ap length c.as_slice-block-items.ensures in
-    (
+    let size = ap length c.as_slice-block-items.ensures in (
       λ e. let g : ⊥ = cc in absurd g,
       λ h.
-      let w = within_joined block_insts f.blocks h.0 (h.1, h.2) in
-      let low = slice_get_within f.blocks w.1.0 w.0 w.1.1 in
-      absurd (c.loop-block.invariant w.0 w.1.0 (omega (arith, low, size, c.loop-block-test.false)) w.1.1 (h.0, w.2.0, w.2.1, h.3)),
+          let w = within_joined block_insts f.blocks h.0 (h.1, h.2) in
+          let low = slice_get_within f.blocks w.1.0 w.0 w.1.1 in
+          absurd (c.loop-block.invariant w.0 w.1.0 (omega (arith, low, size, c.loop-block-test.false)) w.1.1 (h.0, w.2.0, w.2.1, h.3)),
     )

@@ -1,4 +1,4 @@
-use Rattle.std.proofs.Common.{◌≡◌, ◌<◌, Some, refl, slice_get, arith}
+use Rattle.std.proofs.Common.{◌≡◌, Some, refl, slice_get, arith}
 use Rattle.std.proofs.lemmas.Option.{slice_get_within}
 use Rattle.ir_core.specs.declared.instructions.Inst.{Inst}
 use Rattle.call_graph.proofs.ListLaws.{read_at}
