@@ -1,0 +1,2 @@
+mod EffectLaws
+mod CallLaws
