@@ -1,6 +1,8 @@
 pub mod Agree
 pub mod Given
 pub mod InitCalls
+pub mod NumberFlags
+pub mod OffNames
 pub mod OffPaths
 pub mod OffRules
 pub mod Refused
