@@ -5,5 +5,7 @@ pub mod NumberFlags
 pub mod OffNames
 pub mod OffPaths
 pub mod OffRules
+pub mod OffWalks
+pub mod OffWrappers
 pub mod Refused
 pub mod SwitchedOff

@@ -9,7 +9,9 @@ ghost use Rattle.ir_core.specs.NameRefusals.{name_refusals};
 ghost use Rattle.ir_core.specs.declared.refusal.Refusal.{Refusal};
 ghost use Rattle.shapes.specs.CallPaths.{IsNested};
 ghost use Rattle.shapes.specs.Clauses.{clause_refusals};
+ghost use Rattle.shapes.specs.KernelShape.{kernel_refusals};
 ghost use Rattle.shapes.specs.Limits.{limit_refusals};
+ghost use Rattle.shapes.specs.Wrappers.{wrapper_refusals};
 ghost use Rattle.formed_parts.specs.Edits.{module_edited};
 ghost use Rattle.output_laws.specs.Names.{KeepsNames, KeepsRules};
 
@@ -36,4 +38,9 @@ pub fn off_keeps_limits()
 /// The same forks stand on paths from a region in a module whose unused state machine is switched off as before.
 pub fn off_keeps_nested()
     ensures { (m : Module) → (r : Refusal) → IsNested (machine_off m) r ↔ IsNested m r }
+{}
+
+/// The same is refused of the wrappers and forks of a module whose unused state machine is switched off as before, where nothing was refused of its kernels.
+pub fn off_keeps_wrappers()
+    ensures { (m : Module) → kernel_refusals m ≡ [] → wrapper_refusals (machine_off m) ≡ wrapper_refusals m }
 {}
