@@ -188,7 +188,7 @@ same_type : (k : Kind) → result_type (kind_off k) ≡ result_type k
 same_type (Call tail_word ret callee operands) = refl
 same_type _ = refl
 
-same_targets : (k : Kind) → targets_of (kind_off k) ≡ targets_of k
+pub same_targets : (k : Kind) → targets_of (kind_off k) ≡ targets_of k
 same_targets (Call tail_word ret callee operands) = refl
 same_targets _ = refl
 

@@ -3,6 +3,7 @@ pub mod Given
 pub mod InitCalls
 pub mod NumberFlags
 pub mod OffNames
+pub mod OffOpenings
 pub mod OffPaths
 pub mod OffRules
 pub mod OffWalks
