@@ -2,6 +2,7 @@ pub mod Agree
 pub mod Given
 pub mod InitCalls
 pub mod NumberFlags
+pub mod OffKernels
 pub mod OffNames
 pub mod OffOpenings
 pub mod OffPaths

@@ -43,7 +43,7 @@ opens_off (i ∷ is) = ap (λ b. if b then Some (record { before = []; init = in
 
 -- ---- the instructions before the init call
 
-any_off : (test new : Inst → Bool) → ((i : Inst) → new (inst_off i) ≡ test i) → (is : List Inst) → list_any new (map inst_off is) ≡ list_any test is
+pub any_off : (test new : Inst → Bool) → ((i : Inst) → new (inst_off i) ≡ test i) → (is : List Inst) → list_any new (map inst_off is) ≡ list_any test is
 any_off test new same [] = refl
 any_off test new same (i ∷ is) = let more = any_off test new same is in λ k. same i k || more k
 
