@@ -9,5 +9,6 @@ pub mod OffPaths
 pub mod OffRules
 pub mod OffWalks
 pub mod OffWrappers
+pub mod OutputKernels
 pub mod Refused
 pub mod SwitchedOff

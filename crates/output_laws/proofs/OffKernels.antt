@@ -25,7 +25,7 @@ use Rattle.shapes.specs.Uses.{names_used, names_called, names_forked, fork_names
 use Rattle.shapes.specs.KernelShape.{shaped, is_kernel, exec_mode, holds_number, spmd_call, spmd_global, spmd_inputs, has_heading, of_exec_mode, opening, Ways, kernel_ways, branches_to, of_exit_block, of_exit, is_exit_name, returns, is_deinit, returns_next, of_ends, of_block, of_modes, deinit_outside}
 use Rattle.output_laws.specs.OutputKernels.{of_opening_by, of_code_by, of_generic_by, of_function_by, kernel_refusals_by}
 use Rattle.output_laws.proofs.InitCalls.{same_targets}
-use Rattle.output_laws.proofs.NumberFlags.{is_flagged, are_flagged}
+use Rattle.output_laws.proofs.NumberFlags.{are_flagged}
 use Rattle.output_laws.proofs.OffNames.{flat_where, names_used_off}
 use Rattle.output_laws.proofs.OffOpenings.{any_off, first_block_off, kernel_ways_off}
 use Rattle.output_laws.proofs.OffPaths.{callees_off, fork_names_off, is_kernel_off}
@@ -152,37 +152,37 @@ deinit_outside_off i = ap (λ b. shaped (not b) i.line) (is_call_off TargetDeini
 
 -- ---- the whole
 
--- the flags of the first block
-first_flagged : (bs : List Block) → list_all is_flagged (flat_map block_insts bs) ≡ true → list_all is_flagged (first_insts bs) ≡ true
-first_flagged [] e = refl
-first_flagged (b ∷ bs) e = (and_parts (list_all is_flagged b.insts) (list_all is_flagged (flat_map block_insts bs)) (sym (list_all-append is_flagged b.insts (flat_map block_insts bs)) ∙ e)).0
+-- the instructions of the first block
+first_plain : (plain : Inst → Bool) (bs : List Block) → list_all plain (flat_map block_insts bs) ≡ true → list_all plain (first_insts bs) ≡ true
+first_plain plain [] e = refl
+first_plain plain (b ∷ bs) e = (and_parts (list_all plain b.insts) (list_all plain (flat_map block_insts bs)) (sym (list_all-append plain b.insts (flat_map block_insts bs)) ∙ e)).0
 
-module _ (test : Inst → Bool) (same : (i : Inst) → is_flagged i ≡ true → test (inst_off i) ≡ test i) where
-  code_off : (m : Module) (f : Function) → are_flagged f ≡ true → of_code_by test (machine_off m) (function_off f) ≡ of_code_by test m f
+any_kernel : (fs : List Function) → list_any is_kernel (map function_off fs) ≡ list_any is_kernel fs
+any_kernel [] = refl
+any_kernel (f ∷ fs) = let more = any_kernel fs in λ k. is_kernel_off f k || more k
+
+module _ (test new plain : Inst → Bool) (same : (i : Inst) → is_call_of TargetInit i ≡ true → plain i ≡ true → new (inst_off i) ≡ test i) where
+  code_off : (m : Module) (f : Function) → list_all plain (insts_of f) ≡ true → of_code_by new (machine_off m) (function_off f) ≡ of_code_by test m f
   code_off m f e =
       let heading = heading_off m f in
-      let first = first_block_off test same f.line f.blocks (first_flagged f.blocks e) in
+      let first = first_block_off test new plain same f.line f.blocks (first_plain plain f.blocks e) in
       let ways = kernel_ways_off f in
       let exit = ap (of_exit (function_off f)) ways ∙ exit_off f (kernel_ways f) in
       let ends = ap (λ (w : Option Ways). flat_map (of_block w) (map block_off f.blocks)) ways ∙ flat_same (of_block (kernel_ways f)) (of_block (kernel_ways f)) block_off (block_ends_off (kernel_ways f)) f.blocks in
       λ k. shaped (heading k) f.line ++ first k ++ exit k ++ ends k
 
-  function_rules : (m : Module) → list_all are_flagged m.functions ≡ true → (f : Function) → are_flagged f ≡ true → of_function_by test (machine_off m) (function_off f) ≡ of_function_by test m f
-  function_rules m all f e =
+  function_rules_off : (m : Module) → list_all are_flagged m.functions ≡ true → (f : Function) → list_all plain (insts_of f) ≡ true → of_function_by new (machine_off m) (function_off f) ≡ of_function_by test m f
+  function_rules_off m flags f e =
       let kernel = is_kernel_off f in
       let spmd = spmd_inputs_off m f in
-      let mode = exec_mode_rules_off m all (exec_mode m f) in
+      let mode = exec_mode_rules_off m flags (exec_mode m f) in
       let code = code_off m f e in
       let outside = ap (flat_map deinit_outside) (insts_of_off f) ∙ flat_same deinit_outside deinit_outside inst_off deinit_outside_off (insts_of f) in
       λ k. if kernel k then of_modes (spmd k) (mode k ++ code k) else outside k
 
-  any_kernel : (fs : List Function) → list_any is_kernel (map function_off fs) ≡ list_any is_kernel fs
-  any_kernel [] = refl
-  any_kernel (f ∷ fs) = let more = any_kernel fs in λ k. is_kernel_off f k || more k
-
-  -- by a test that init calls pass as before the same is refused of kernels
-  pub kernels_off : (m : Module) → list_all are_flagged m.functions ≡ true → kernel_refusals_by test (machine_off m) ≡ kernel_refusals_by test m
-  kernels_off m e =
+  -- the same is refused of kernels by a test that the new init calls pass where the old ones pass the other
+  pub kernels_off : (m : Module) → list_all are_flagged m.functions ≡ true → list_all (λ f. list_all plain (insts_of f)) m.functions ≡ true → kernel_refusals_by new (machine_off m) ≡ kernel_refusals_by test m
+  kernels_off m flags e =
       let kernels = any_kernel m.functions in
-      let functions = flat_where are_flagged (of_function_by test m) (of_function_by test (machine_off m)) function_off (function_rules m e) m.functions e in
+      let functions = flat_where (λ f. list_all plain (insts_of f)) (of_function_by test m) (of_function_by new (machine_off m)) function_off (function_rules_off m flags) m.functions e in
       λ k. shaped (kernels k) 1 ++ functions k

@@ -16,8 +16,8 @@ use Rattle.ir_core.specs.MachineOff.{kind_off, inst_off, block_off, function_off
 use Rattle.ir_core.specs.Places.{Name}
 use Rattle.shapes.specs.Facts.{first_insts, is_call_of, gives}
 use Rattle.shapes.specs.KernelShape.{shaped, Opening, behind_inst, opening, makes_block, is_alloca_in, goes_into_alloca, makes_own, is_own_pointer, may_open, of_opener, compares, is_test, Ways, ways_by, ways_on, ways, two_ways, of_branch, of_behind, ways_behind, ways_of, kernel_ways}
+use Rattle.accepted_laws.proofs.Nothing.{both_hold}
 use Rattle.output_laws.specs.OutputKernels.{of_opening_by}
-use Rattle.output_laws.proofs.NumberFlags.{is_flagged}
 use Rattle.output_laws.proofs.SwitchedOff.{flat_same, is_call_off}
 
 -- ---- where the init call stands
@@ -133,34 +133,36 @@ kernel_ways_off f = ap (λ is. ways_of (opening is)) (first_insts_off f.blocks) 
 
 -- ---- the rules on the first block
 
--- the flag of the init call that was found is 1
-abbrev pub is_opened_by_flag : Option Opening → Bool
-is_opened_by_flag None = true
-is_opened_by_flag (Some o) = is_flagged o.init
+-- the init call that was found passes a test
+abbrev pub is_opened_by : (Inst → Bool) → Option Opening → Bool
+is_opened_by plain None = true
+is_opened_by plain (Some o) = is_call_of TargetInit o.init && plain o.init
 
-flag_found : (is : List Inst) → list_all is_flagged is ≡ true → is_opened_by_flag (opening is) ≡ true
-flag_found [] e = refl
-flag_found (i ∷ is) e = let parts = and_parts (is_flagged i) (list_all is_flagged is) e in by (is_call_of TargetInit i) parts.0 (flag_found is parts.1)
+opened_behind : (plain : Inst → Bool) (i : Inst) (o : Option Opening) → is_opened_by plain (option_map (behind_inst i) o) ≡ is_opened_by plain o
+opened_behind plain i None = refl
+opened_behind plain i (Some o) = refl
+
+init_found : (plain : Inst → Bool) (is : List Inst) → list_all plain is ≡ true → is_opened_by plain (opening is) ≡ true
+init_found plain [] e = refl
+init_found plain (i ∷ is) e = let parts = and_parts (plain i) (list_all plain is) e in by (is_call_of TargetInit i) refl parts.0 (init_found plain is parts.1)
   where
-    further : (o : Option Opening) → is_opened_by_flag (option_map (behind_inst i) o) ≡ is_opened_by_flag o
-    further None = refl
-    further (Some o) = refl
+    by : (b : Bool) → is_call_of TargetInit i ≡ b → plain i ≡ true → is_opened_by plain (opening is) ≡ true → is_opened_by plain (if b then Some (record { before = []; init = i; behind = is }) else option_map (behind_inst i) (opening is)) ≡ true
+    by true call here more = both_hold (is_call_of TargetInit i) (plain i) call here
+    by false call here more = opened_behind plain i (opening is) ∙ more
 
-    by : (b : Bool) → is_flagged i ≡ true → is_opened_by_flag (opening is) ≡ true → is_opened_by_flag (if b then Some (record { before = []; init = i; behind = is }) else option_map (behind_inst i) (opening is)) ≡ true
-    by true here more = here
-    by false here more = further (opening is) ∙ more
+module _ (test new plain : Inst → Bool) (same : (i : Inst) → is_call_of TargetInit i ≡ true → plain i ≡ true → new (inst_off i) ≡ test i) where
+  -- a test that the new init call passes where the old one passes the other
+  opening_rules : (line : ℕ) (insts : List Inst) (o : Option Opening) → is_opened_by plain o ≡ true → of_opening_by new line (map inst_off insts) (option_map opening_off o) ≡ of_opening_by test line insts o
+  opening_rules line insts None e = refl
+  opening_rules line insts (Some o) e =
+      let parts = and_parts (is_call_of TargetInit o.init) (plain o.init) e in
+      let before = flat_same (of_opener insts) (of_opener (map inst_off insts)) inst_off (opener_off insts) o.before in
+      let init = same o.init parts.0 parts.1 in
+      let behind = of_behind_off line o.init.result o.behind in
+      λ k. before k ++ shaped (init k) o.init.line ++ behind k
 
--- a test that an init call passes as before keeps the rules
-opening_rules : (test : Inst → Bool) → ((i : Inst) → is_flagged i ≡ true → test (inst_off i) ≡ test i) → (line : ℕ) (insts : List Inst) (o : Option Opening) → is_opened_by_flag o ≡ true → of_opening_by test line (map inst_off insts) (option_map opening_off o) ≡ of_opening_by test line insts o
-opening_rules test same line insts None e = refl
-opening_rules test same line insts (Some o) e =
-    let before = flat_same (of_opener insts) (of_opener (map inst_off insts)) inst_off (opener_off insts) o.before in
-    let init = same o.init e in
-    let behind = of_behind_off line o.init.result o.behind in
-    λ k. before k ++ shaped (init k) o.init.line ++ behind k
-
-pub first_block_off : (test : Inst → Bool) → ((i : Inst) → is_flagged i ≡ true → test (inst_off i) ≡ test i) → (line : ℕ) (bs : List Block) → list_all is_flagged (first_insts bs) ≡ true → of_opening_by test line (first_insts (map block_off bs)) (opening (first_insts (map block_off bs))) ≡ of_opening_by test line (first_insts bs) (opening (first_insts bs))
-first_block_off test same line bs e =
-    (λ k. of_opening_by test line (first_insts_off bs k) (opening (first_insts_off bs k)))
-    ∙ ap (of_opening_by test line (map inst_off (first_insts bs))) (opens_off (first_insts bs))
-    ∙ opening_rules test same line (first_insts bs) (opening (first_insts bs)) (flag_found (first_insts bs) e)
+  pub first_block_off : (line : ℕ) (bs : List Block) → list_all plain (first_insts bs) ≡ true → of_opening_by new line (first_insts (map block_off bs)) (opening (first_insts (map block_off bs))) ≡ of_opening_by test line (first_insts bs) (opening (first_insts bs))
+  first_block_off line bs e =
+      (λ k. of_opening_by new line (first_insts_off bs k) (opening (first_insts_off bs k)))
+      ∙ ap (of_opening_by new line (map inst_off (first_insts bs))) (opens_off (first_insts bs))
+      ∙ opening_rules line (first_insts bs) (opening (first_insts bs)) (init_found plain (first_insts bs) e)
