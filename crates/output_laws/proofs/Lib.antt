@@ -1,6 +1,7 @@
 pub mod Agree
 pub mod Given
 pub mod InitCalls
+pub mod InitOperands
 pub mod NumberFlags
 pub mod OffKernels
 pub mod OffNames
