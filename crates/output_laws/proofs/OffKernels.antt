@@ -1,5 +1,5 @@
 -- What of the shape of kernels stays where the machine is switched off: all but the flag of the init call.
-use Rattle.std.proofs.Common.{◌≡◌, ℕ, suc, List, [], ◌∷◌, ◌++◌, length, drop, map, Bool, true, false, not, cond, ◌||◌, ◌&&◌, ◌==◌, Option, Some, None, option_map, refl, sym, ap, ◌∙◌, if◌then◌else◌}
+use Rattle.std.proofs.Common.{◌≡◌, suc, List, [], ◌∷◌, ◌++◌, length, drop, map, Bool, true, false, not, cond, ◌||◌, ◌&&◌, ◌==◌, Option, Some, None, option_map, refl, sym, ap, ◌∙◌, if◌then◌else◌}
 use Rattle.std.specs.List.{flat_map, filter, find, list_all, list_any}
 use Rattle.std.specs.Str.{bytes_eq}
 use Rattle.std.proofs.lemmas.Bool.{and_parts}
@@ -12,7 +12,6 @@ use Rattle.ir_core.specs.declared.module.Function.{Function}
 use Rattle.ir_core.specs.declared.module.Global.{Global}
 use Rattle.ir_core.specs.declared.module.Block.{Block}
 use Rattle.ir_core.specs.declared.refusal.Construct.TheVariants.{SpmdInput}
-use Rattle.ir_core.specs.declared.refusal.Refusal.{Refusal}
 use Rattle.ir_core.specs.declared.rtl.Rtl.TheVariants.{TargetInit, TargetDeinit}
 use Rattle.ir_core.specs.FirstForm.{is_int_of, is_void, is_return_kind, no_result, is_exit}
 use Rattle.ir_core.specs.MachineOff.{kind_off, inst_off, block_off, function_off, machine_off}
@@ -20,10 +19,10 @@ use Rattle.ir_core.specs.Places.{Name}
 use Rattle.ir_core.specs.Typing.{targets_of}
 use Rattle.ir_core.specs.Wrappers.{callees, is_in}
 use Rattle.shapes.specs.Insts.{block_insts}
-use Rattle.shapes.specs.Facts.{rule, insts_of, insts_in, first_insts, is_call_of, operand_of, is_constant}
-use Rattle.shapes.specs.Uses.{names_used, names_called, names_forked, fork_names}
-use Rattle.shapes.specs.KernelShape.{shaped, is_kernel, exec_mode, holds_number, spmd_call, spmd_global, spmd_inputs, has_heading, of_exec_mode, opening, Ways, kernel_ways, branches_to, of_exit_block, of_exit, is_exit_name, returns, is_deinit, returns_next, of_ends, of_block, of_modes, deinit_outside}
-use Rattle.output_laws.specs.OutputKernels.{of_opening_by, of_code_by, of_generic_by, of_function_by, kernel_refusals_by}
+use Rattle.shapes.specs.Facts.{rule, insts_of, insts_in, first_insts, is_call_of, is_constant}
+use Rattle.shapes.specs.Uses.{names_called, names_forked, fork_names}
+use Rattle.shapes.specs.KernelShape.{shaped, is_kernel, exec_mode, holds_number, spmd_call, spmd_global, spmd_inputs, has_heading, of_exec_mode, Ways, kernel_ways, branches_to, of_exit_block, of_exit, is_exit_name, returns, is_deinit, returns_next, of_ends, of_block, of_modes, deinit_outside}
+use Rattle.output_laws.specs.OutputKernels.{of_code_by, of_function_by, kernel_refusals_by}
 use Rattle.output_laws.proofs.InitCalls.{same_targets}
 use Rattle.output_laws.proofs.NumberFlags.{are_flagged}
 use Rattle.output_laws.proofs.OffNames.{flat_where, names_used_off}

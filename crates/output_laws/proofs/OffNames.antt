@@ -9,12 +9,10 @@ use Rattle.ir_core.specs.declared.instructions.Value.TheVariants.{Int as IntValu
 use Rattle.ir_core.specs.declared.instructions.Typed.{Typed}
 use Rattle.ir_core.specs.declared.instructions.Kind.{Kind}
 use Rattle.ir_core.specs.declared.instructions.Kind.TheVariants.{Call}
-use Rattle.ir_core.specs.declared.instructions.Inst.{Inst}
 use Rattle.ir_core.specs.declared.module.Module.{Module}
 use Rattle.ir_core.specs.EntryPoints.{target_init}
 use Rattle.ir_core.specs.FirstForm.{is_number}
 use Rattle.ir_core.specs.MachineOff.{operands_off, kind_off, inst_off, machine_off}
-use Rattle.ir_core.specs.Places.{Name}
 use Rattle.ir_core.specs.Typing.{is_fork}
 use Rattle.ir_core.specs.Wrappers.{value_names}
 use Rattle.shapes.specs.Facts.{insts_in, is_constant}

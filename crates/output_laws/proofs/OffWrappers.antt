@@ -1,37 +1,26 @@
 -- The same is refused of wrappers and forks where the machine is switched off and the flags of the init calls are numbers.
-use Rattle.std.proofs.Common.{◌≡◌, ℕ, List, [], ◌∷◌, ◌++◌, length, map, Bool, true, false, not, nat_le, ◌==◌, ◌&&◌, Option, Some, None, option_map, refl, sym, ap, ◌∙◌, if◌then◌else◌}
-use Rattle.std.specs.Prelude.{slice_get, option_and_then}
+use Rattle.std.proofs.Common.{◌≡◌, [], ◌++◌, length, true, false, not, nat_le, ◌==◌, ◌&&◌, Option, Some, None, option_map, refl, ap, ◌∙◌, if◌then◌else◌}
 use Rattle.std.specs.List.{flat_map, list_all}
-use Rattle.std.specs.Str.{bytes_eq}
-use Rattle.std.proofs.lemmas.Bool.{and_parts}
-use Rattle.std.proofs.lemmas.List.{length-map, map-append}
+use Rattle.std.proofs.lemmas.List.{length-map}
 use Rattle.ir_core.specs.declared.instructions.Value.{Value}
 use Rattle.ir_core.specs.declared.instructions.Value.TheVariants.{Int as IntValue, Null, Local as LocalValue, Global as GlobalValue}
 use Rattle.ir_core.specs.declared.instructions.Typed.{Typed}
-use Rattle.ir_core.specs.declared.instructions.Kind.{Kind}
-use Rattle.ir_core.specs.declared.instructions.Kind.TheVariants.{Load, Store, Call, Ret}
 use Rattle.ir_core.specs.declared.instructions.Inst.{Inst}
 use Rattle.ir_core.specs.declared.module.Module.{Module}
 use Rattle.ir_core.specs.declared.module.Function.{Function}
-use Rattle.ir_core.specs.declared.module.Block.{Block}
 use Rattle.ir_core.specs.declared.refusal.Construct.TheVariants.{WrapperShape}
-use Rattle.ir_core.specs.declared.refusal.Refusal.{Refusal}
 use Rattle.ir_core.specs.declared.rtl.Rtl.TheVariants.{Parallel}
-use Rattle.ir_core.specs.EntryPoints.{target_init}
-use Rattle.ir_core.specs.FirstForm.{is_number, is_void, is_function}
-use Rattle.ir_core.specs.MachineOff.{calls_init, operands_off, kind_off, inst_off, block_off, function_off, machine_off}
+use Rattle.ir_core.specs.FirstForm.{is_void}
+use Rattle.ir_core.specs.MachineOff.{inst_off, block_off, function_off, machine_off}
 use Rattle.ir_core.specs.Places.{Name}
-use Rattle.ir_core.specs.Wrappers.{callees, get_shared_variables, is_in, is_wrapper, with_blocks, defined, first_of, region_function, captures_of, captures}
-use Rattle.shapes.specs.Facts.{rule, insts_of, insts_in, function_given, is_call_of, operand_of, is_constant}
-use Rattle.shapes.specs.Uses.{names_elsewhere}
+use Rattle.ir_core.specs.Wrappers.{is_in, region_function}
+use Rattle.shapes.specs.Facts.{rule, insts_of, insts_in, function_given, operand_of, is_constant}
 use Rattle.shapes.specs.KernelShape.{kernel_refusals}
-use Rattle.shapes.specs.Walk.{Form, Known, Walk, known_of, Thread, Number, is_slot_with, form_at, forms_from, passes, calls_region, asks, called, step_kind, step, first_walk, or_refused, failing, of_walk}
-use Rattle.shapes.specs.Wrappers.{is_region, are_wrapper_params, most_insts, has_wrapper_form, of_wrapper, of_function, is_defined, names_function, forks_by, wrapper_given, of_fork, wrapper_refusals}
-use Rattle.accepted_laws.proofs.Nothing.{not_both}
+use Rattle.shapes.specs.Wrappers.{is_region, are_wrapper_params, most_insts, has_wrapper_form, of_wrapper, of_function, names_function, forks_by, wrapper_given, of_fork, wrapper_refusals}
 use Rattle.output_laws.proofs.Given.{found_edited}
 use Rattle.output_laws.proofs.NumberFlags.{are_flagged, module_flagged}
 use Rattle.output_laws.proofs.OffNames.{flat_where, names_elsewhere_off}
-use Rattle.output_laws.proofs.OffPaths.{callees_off, is_wrapper_off, is_defined_off}
+use Rattle.output_laws.proofs.OffPaths.{is_wrapper_off, is_defined_off}
 use Rattle.output_laws.proofs.OffWalks.{region_off, captures_off, walk_off}
 use Rattle.output_laws.proofs.SwitchedOff.{flat_same, insts_of_off, insts_in_off, is_call_off, operand_off}
 

@@ -2,7 +2,6 @@
 use Rattle.std.proofs.Common.{◌≡◌, ℕ, List, [], ◌∷◌, ◌++◌, Bool, true, false, ◌&&◌, Option, Some, None, refl, sym, ap, ◌∙◌, if◌then◌else◌}
 use Rattle.std.specs.Prelude.{slice_get}
 use Rattle.std.specs.List.{flat_map, list_any}
-use Rattle.std.specs.Str.{bytes_eq}
 use Rattle.ir_core.specs.declared.instructions.Value.TheVariants.{Int as IntValue, Null, Local as LocalValue, Global as GlobalValue}
 use Rattle.ir_core.specs.declared.instructions.Typed.{Typed}
 use Rattle.ir_core.specs.declared.instructions.Kind.{Kind}
@@ -12,11 +11,10 @@ use Rattle.ir_core.specs.declared.module.Module.{Module}
 use Rattle.ir_core.specs.declared.module.Function.{Function}
 use Rattle.ir_core.specs.declared.refusal.Refusal.{Refusal}
 use Rattle.ir_core.specs.declared.rtl.Rtl.TheVariants.{TargetInit}
-use Rattle.ir_core.specs.EntryPoints.{target_init}
 use Rattle.ir_core.specs.FirstForm.{is_number}
 use Rattle.ir_core.specs.MachineOff.{operands_off, kind_off, inst_off, machine_off}
 use Rattle.shapes.specs.Facts.{insts_of, first_insts, calls, is_call_of, operands_of, operand_of, is_constant}
-use Rattle.shapes.specs.KernelShape.{shaped, is_kernel, spmd_inputs, has_heading, exec_mode, of_exec_mode, Opening, opening, of_opener, is_generic_init, of_behind, of_opening, kernel_ways, of_exit, of_block, of_code, of_generic, of_modes, deinit_outside, of_function, kernel_refusals}
+use Rattle.shapes.specs.KernelShape.{shaped, is_kernel, spmd_inputs, has_heading, exec_mode, of_exec_mode, Opening, opening, of_opener, is_generic_init, of_behind, of_opening, kernel_ways, of_exit, of_block, of_modes, deinit_outside, of_function, kernel_refusals}
 use Rattle.accepted_laws.proofs.Nothing.{front_none, back_none}
 use Rattle.output_laws.specs.OutputKernels.{is_switched_off_init, is_output_init, of_opening_by, of_code_by, of_generic_by, of_function_by, kernel_refusals_by, output_kernel_refusals}
 use Rattle.output_laws.proofs.NumberFlags.{is_flagged, module_flagged, shape_holds}

@@ -1,7 +1,7 @@
 //! Laws of the modules that the optimiser gives: what holds of them where it held of the module that was taken. They take no code of the program.
 #![tactic(auto)]
 
-ghost use Rattle.std.specs.Prelude.{◌≡◌, ◌↔◌, [], Option};
+ghost use Rattle.std.specs.Prelude.{◌≡◌, ◌↔◌, [], false, Option};
 ghost use Rattle.ir_core.specs.declared.instructions.Inst.{Inst};
 ghost use Rattle.ir_core.specs.declared.module.Module.{Module};
 ghost use Rattle.ir_core.specs.declared.module.Function.{Function};
@@ -17,7 +17,7 @@ ghost use Rattle.shapes.specs.Limits.{limit_refusals};
 ghost use Rattle.shapes.specs.Wrappers.{wrapper_refusals};
 ghost use Rattle.formed_parts.specs.Edits.{module_edited};
 ghost use Rattle.output_laws.specs.Names.{KeepsNames, KeepsRules};
-ghost use Rattle.output_laws.specs.OutputKernels.{output_kernel_refusals};
+ghost use Rattle.output_laws.specs.OutputKernels.{is_switched_off_init, kernel_refusals_by, output_kernel_refusals};
 
 /// Nothing is refused of names and types where each instruction is replaced by one that gives the same names and keeps the rules of its kind.
 pub fn edits_keep_names()
@@ -68,4 +68,14 @@ pub fn output_kernels()
 /// Kernels whose unused state machine is switched off have the shape of those that the optimiser gives, where nothing was refused of them before.
 pub fn off_keeps_kernels()
     ensures { (m : Module) → kernel_refusals m ≡ [] → output_kernel_refusals (machine_off m) ≡ [] }
+{}
+
+/// The flag of each kernel whose unused state machine is switched off is 0, where nothing was refused of names and kernels before.
+pub fn off_switches_kernels()
+    ensures { (m : Module) → name_refusals m ≡ [] → kernel_refusals m ≡ [] → kernel_refusals_by is_switched_off_init (machine_off m) ≡ [] }
+{}
+
+/// As a module that is taken, one whose unused state machine is switched off is refused at its init calls, and nowhere else, where nothing was refused of names and kernels before.
+pub fn off_refuses_inits()
+    ensures { (m : Module) → name_refusals m ≡ [] → kernel_refusals m ≡ [] → kernel_refusals (machine_off m) ≡ kernel_refusals_by (λ i. false) m }
 {}
