@@ -23,7 +23,7 @@ abbrev edited_symbol : (Inst → Inst) → Symbol → Symbol
 edited_symbol edit Variable = Variable
 edited_symbol edit (Routine f) = Routine (function_edited edit f)
 
-found_edited : (edit : Inst → Inst) (x : Name) (fs : List Function) → find (λ f. bytes_eq f.name x) (map (function_edited edit) fs) ≡ option_map (function_edited edit) (find (λ f. bytes_eq f.name x) fs)
+pub found_edited : (edit : Inst → Inst) (x : Name) (fs : List Function) → find (λ f. bytes_eq f.name x) (map (function_edited edit) fs) ≡ option_map (function_edited edit) (find (λ f. bytes_eq f.name x) fs)
 found_edited edit x [] = refl
 found_edited edit x (f ∷ fs) = by (bytes_eq f.name x) (found_edited edit x fs)
   where

@@ -36,7 +36,7 @@ use Rattle.output_laws.proofs.Refused.{edits_keep_names}
 -- ---- what an init call calls
 
 -- the first that passes a test stands in the list, and passes it
-found : {X : Type 0} (test : X → Bool) (xs : List X) (x : X) → find test xs ≡ Some x → (at : ℕ) × (slice_get xs at ≡ Some x) × (test x ≡ true)
+pub found : {X : Type 0} (test : X → Bool) (xs : List X) (x : X) → find test xs ≡ Some x → (at : ℕ) × (slice_get xs at ≡ Some x) × (test x ≡ true)
 found {X} test [] x e = absurd (let f : ◌≡◌ {A = Option X} None (Some x) = e in cc)
 found {X} test (y ∷ ys) x e = by (test y) refl e (found test ys x)
   where
@@ -44,7 +44,7 @@ found {X} test (y ∷ ys) x e = by (test y) refl e (found test ys x)
     by true t s more = (zero, s, subst (λ z. test z ≡ true) (same_Some y x s) t)
     by false t s more = let r = more s in (suc r.0, r.1, r.2)
 
-first_found : (g : Option Global) (o : Option Function) (f : Function) → first_symbol g o ≡ Some (Routine f) → o ≡ Some f
+pub first_found : (g : Option Global) (o : Option Function) (f : Function) → first_symbol g o ≡ Some (Routine f) → o ≡ Some f
 first_found None None f e = absurd (let k : ◌≡◌ {A = Option Symbol} None (Some (Routine f)) = e in cc)
 first_found (Some g) None f e = absurd (let k : ◌≡◌ {A = Option Symbol} (Some Variable) (Some (Routine f)) = e in cc)
 first_found None (Some h) f e = let k : ◌≡◌ {A = Option Symbol} (Some (Routine h)) (Some (Routine f)) = e in let z : h ≡ f = cc in ap Some z
@@ -56,7 +56,7 @@ first_found (Some g) (Some h) f e = by (nat_lt h.line g.line) e
 
 -- ---- how it is declared
 
-abbrev init_params : List Ty
+abbrev pub init_params : List Ty
 init_params = Ptr ∷ IntTy 8 ∷ IntTy 1 ∷ []
 
 or_false : (b : Bool) → (b || false) ≡ true → b ≡ true
@@ -80,7 +80,7 @@ in_declaration_none f [] e = by (list_any (is_declared_as f) entry_points) (fron
     by false e = something _ _ e
 in_declaration_none f (b ∷ bs) e = something _ _ e
 
-init_declared : (m : Module) (f : Function) → f.name ≡ target_init → in_heading m f ≡ [] → are_declared init_params f.params ≡ true
+pub init_declared : (m : Module) (f : Function) → f.name ≡ target_init → in_heading m f ≡ [] → are_declared init_params f.params ≡ true
 init_declared m f n e =
     let s : in_signature f ≡ [] = back_none (in_type m f.ret ++ expects (is_result f.ret) ++ flat_map (in_param m) f.params) (in_signature f) e in
     let entry : is_entry_point f.name ≡ true = ap is_entry_point n in
@@ -188,7 +188,7 @@ same_type : (k : Kind) → result_type (kind_off k) ≡ result_type k
 same_type (Call tail_word ret callee operands) = refl
 same_type _ = refl
 
-same_targets : (k : Kind) → targets_of (kind_off k) ≡ targets_of k
+pub same_targets : (k : Kind) → targets_of (kind_off k) ≡ targets_of k
 same_targets (Call tail_word ret callee operands) = refl
 same_targets _ = refl
 

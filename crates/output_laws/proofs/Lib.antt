@@ -1,7 +1,15 @@
 pub mod Agree
 pub mod Given
 pub mod InitCalls
+pub mod InitOperands
+pub mod NumberFlags
+pub mod OffKernels
+pub mod OffNames
+pub mod OffOpenings
 pub mod OffPaths
 pub mod OffRules
+pub mod OffWalks
+pub mod OffWrappers
+pub mod OutputKernels
 pub mod Refused
 pub mod SwitchedOff

@@ -79,7 +79,7 @@ is_wrapper_off m f =
     let called = callees_off f in
     λ k. if is_in (names k) f.name then true else is_in (called k) get_shared_variables
 
-fork_names_off : (i : Inst) → fork_names (inst_off i) ≡ fork_names i
+pub fork_names_off : (i : Inst) → fork_names (inst_off i) ≡ fork_names i
 fork_names_off i =
     let call = is_call_off Parallel i in
     let region = operand_off i 5 refl in
