@@ -1,60 +1,24 @@
 -- Calls of functions with marks, and instructions that need a guard.
-use Rattle.std.proofs.Common.{◌≡◌, ◌↔◌, ◌⊎◌, ℕ, List, Bool, true, false, Option, Some, None, option_and_then, if◌then◌else◌, inl, inr, refl, sym, ap, subst, ◌∙◌, slice_get}
+use Rattle.std.proofs.Common.{◌≡◌, ◌↔◌, ◌⊎◌, ℕ, List, Bool, true, Option, Some, None, inl, inr, refl, sym, ap, subst, ◌∙◌, slice_get}
 use Rattle.std.proofs.lemmas.Option.{none-some, same_Some}
-use Rattle.ir_core.specs.declared.types.Ty.{Ty}
-use Rattle.ir_core.specs.declared.instructions.Value.{Value}
-use Rattle.ir_core.specs.declared.instructions.Value.TheVariants.{Int as IntValue, Null, Local as LocalValue, Global as GlobalValue}
 use Rattle.ir_core.specs.declared.instructions.Typed.{Typed}
-use Rattle.ir_core.specs.declared.instructions.TailWord.{TailWord}
 use Rattle.ir_core.specs.declared.instructions.Kind.{Kind}
 use Rattle.ir_core.specs.declared.instructions.Kind.TheVariants.{Call}
 use Rattle.ir_core.specs.declared.instructions.Inst.{Inst}
 use Rattle.ir_core.specs.declared.module.Block.{Block}
 use Rattle.ir_core.specs.declared.module.Module.{Module}
 use Rattle.ir_core.specs.declared.module.Function.{Function}
-use Rattle.ir_core.specs.Places.{Name, Place, function_place, block_in, inst_in, inst_at}
+use Rattle.ir_core.specs.Places.{Place, block_in, inst_in, inst_at}
 use Rattle.shapes.specs.Insts.{block_insts}
-use Rattle.shapes.specs.Wrappers.{is_defined}
 use Rattle.call_graph.proofs.ListLaws.{joined_has}
 use Rattle.call_paths.specs.Known.{IsRowOf}
-use Rattle.register_hops.specs.Hops.{if_defined, defined_place}
+use Rattle.pointer_facts.proofs.KnownLaws.{calls_function}
+use Rattle.pointer_facts.proofs.WholeLaws.{defined_there}
 use Rattle.value_facts.specs.Effects.{HasEffect, CallsWithEffect, NeedsGuard}
 use Rattle.value_facts.specs.Pointers.{StandsIn, CallsFunction}
 use Rattle.effect_facts.specs.Marks.{called_place, HasEffectAlone, CallsMarked, AreMarks}
 
 -- ---- the function that is called
-
-module _ (m : Module) (at to : ℕ) (i : Inst) (stands : StandsIn m at i) (tail_word : TailWord) (ret : Ty) (operands : List Typed) where
-  by_test : (x : Name) (k : ℕ) (f : Function) (test : Bool) → i.kind ≡ Call tail_word ret (GlobalValue x) operands → function_place m x ≡ Some k → slice_get m.functions k ≡ Some f
-      → is_defined f ≡ test → (if test then Some k else None) ≡ Some to → CallsFunction m at to i operands
-  by_test x k f false is named there defined e = absurd (none-some to e)
-  by_test x k f true is named there defined e =
-      let same = same_Some k to e in
-      record {
-        stands = stands;
-        tail_word = tail_word;
-        ret = ret;
-        callee = x;
-        is = is;
-        named = named ∙ ap Some same;
-        function = f;
-        there = ap (slice_get m.functions) (sym same) ∙ there;
-        defined = defined;
-      }
-
-  by_function : (x : Name) (k : ℕ) (o : Option Function) → i.kind ≡ Call tail_word ret (GlobalValue x) operands → function_place m x ≡ Some k → slice_get m.functions k ≡ o → if_defined k o ≡ Some to → CallsFunction m at to i operands
-  by_function x k None is named there e = absurd (none-some to e)
-  by_function x k (Some f) is named there e = by_test x k f (is_defined f) is named there refl e
-
-  by_place : (x : Name) (o : Option ℕ) → i.kind ≡ Call tail_word ret (GlobalValue x) operands → function_place m x ≡ o → option_and_then (λ k. if_defined k (slice_get m.functions k)) o ≡ Some to → CallsFunction m at to i operands
-  by_place x None is named e = absurd (none-some to e)
-  by_place x (Some k) is named e = by_function x k (slice_get m.functions k) is named refl e
-
-  calls_function : (callee : Value) → i.kind ≡ Call tail_word ret callee operands → defined_place m callee ≡ Some to → CallsFunction m at to i operands
-  calls_function (GlobalValue x) is e = by_place x (function_place m x) is refl e
-  calls_function (IntValue n) is e = absurd (none-some to e)
-  calls_function Null is e = absurd (none-some to e)
-  calls_function (LocalValue x) is e = absurd (none-some to e)
 
 module _ (m : Module) (at to : ℕ) (i : Inst) where
   called_by : StandsIn m at i → (kind : Kind) → i.kind ≡ kind → called_place m kind ≡ Some to → (operands : List Typed) × CallsFunction m at to i operands
@@ -62,11 +26,7 @@ module _ (m : Module) (at to : ℕ) (i : Inst) where
   called_by stands _ is e = absurd (none-some to e)
 
   place_called : (operands : List Typed) → CallsFunction m at to i operands → called_place m i.kind ≡ Some to
-  place_called operands c =
-      ap (called_place m) c.is
-      ∙ ap (option_and_then (λ k. if_defined k (slice_get m.functions k))) c.named
-      ∙ ap (if_defined to) c.there
-      ∙ ap (λ test. if test then Some to else None) c.defined
+  place_called operands c = ap (called_place m) c.is ∙ defined_there m at to i operands c
 
 calls_marked_is : (m : Module) (at : ℕ) (i : Inst) (alone : List Bool) → StandsIn m at i → IsRowOf (HasEffectAlone m) alone → CallsMarked m alone i ↔ CallsWithEffect m at i
 calls_marked_is m at i alone stands row = (

@@ -65,7 +65,7 @@ module _ (m : Module) (at to : ℕ) (i : Inst) (stands : StandsIn m at i) (tail_
   by_place x None is named e = absurd (none-some to e)
   by_place x (Some k) is named e = by_function x k (slice_get m.functions k) is named refl e
 
-  calls_function : (callee : Value) → i.kind ≡ Call tail_word ret callee operands → defined_place m callee ≡ Some to → CallsFunction m at to i operands
+  pub calls_function : (callee : Value) → i.kind ≡ Call tail_word ret callee operands → defined_place m callee ≡ Some to → CallsFunction m at to i operands
   calls_function (GlobalValue x) is e = by_place x (function_place m x) is refl e
   calls_function (IntValue n) is e = absurd (none-some to e)
   calls_function Null is e = absurd (none-some to e)

@@ -1,7 +1,7 @@
 mod GivenLaws
-mod KnownLaws
+pub mod KnownLaws
 mod RootLaws
 mod FromLaws
-mod WholeLaws
+pub mod WholeLaws
 mod SideLaws
 mod ExactLaws

@@ -57,7 +57,7 @@ module _ (m : Module) where
   copy_made at result x y _ v h p q = absurd h
 
   module _ (at to : ℕ) (i : Inst) (operands : List Typed) (c : CallsFunction m at to i operands) where
-    defined_there : defined_place m (GlobalValue c.callee) ≡ Some to
+    pub defined_there : defined_place m (GlobalValue c.callee) ≡ Some to
     defined_there =
         ap (option_and_then (λ k. if_defined k (slice_get m.functions k))) c.named
         ∙ ap (if_defined to) c.there
