@@ -7,7 +7,6 @@ use Rattle.ir_core.specs.declared.instructions.Inst.{Inst}
 use Rattle.ir_core.specs.declared.module.Block.{Block}
 use Rattle.ir_core.specs.declared.module.Function.{Function}
 use Rattle.ir_core.specs.declared.module.Module.{Module}
-use Rattle.ir_core.specs.MachineOff.{inst_off, block_off, function_off, machine_off}
 use Rattle.ir_core.specs.Places.{param_name, inst_results, block_results, register_names_of, result_names}
 use Rattle.ir_tables.specs.Indexed.{CanBeCounted}
 use Rattle.shapes.specs.Facts.{insts_of, insts_in}
@@ -70,26 +69,3 @@ counted m few params at = by (slice_get m.functions at) refl
         let own_params = params at f is in
         let registers = registers_length f in
         omega arith
-
--- ---- the machines switched off
-
-blocks_as_many : (bs : List Block) → length (flat_map (λ (b : Block). b.insts) (map block_off bs)) ≡ length (flat_map (λ (b : Block). b.insts) bs)
-blocks_as_many [] = refl
-blocks_as_many (b ∷ bs) =
-    let own = length-map b.insts inst_off in
-    let more = blocks_as_many bs in
-    let new = length-append (map inst_off b.insts) (flat_map (λ (b : Block). b.insts) (map block_off bs)) in
-    let old = length-append b.insts (flat_map (λ (b : Block). b.insts) bs) in
-    omega arith
-
-functions_as_many : (fs : List Function) → length (flat_map insts_of (map function_off fs)) ≡ length (flat_map insts_of fs)
-functions_as_many [] = refl
-functions_as_many (f ∷ fs) =
-    let own = blocks_as_many f.blocks in
-    let more = functions_as_many fs in
-    let new = length-append (insts_of (function_off f)) (flat_map insts_of (map function_off fs)) in
-    let old = length-append (insts_of f) (flat_map insts_of fs) in
-    omega arith
-
-pub as_many : (m : Module) → length (insts_in (machine_off m)) ≡ length (insts_in m)
-as_many m = functions_as_many m.functions

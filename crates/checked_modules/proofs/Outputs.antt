@@ -1,15 +1,13 @@
 -- What holds of every module that the optimiser may give.
-use Rattle.std.proofs.Common.{◌≡◌, ℕ, ◌≤◌, List, [], ◌∷◌, ◌++◌, length, Option, Some, None, option_map, inl, inr, refl, sym, ap, ◌∙◌, subst, slice_get}
-use Rattle.std.proofs.lemmas.Option.{none-some, same_Some, slice_get-map}
+use Rattle.std.proofs.Common.{◌≡◌, ℕ, ◌≤◌, List, [], ◌∷◌, ◌++◌, length, Option, Some, None, option_map, inl, refl, ap, ◌∙◌, slice_get}
+use Rattle.std.proofs.lemmas.Option.{slice_get-map}
 use Rattle.ir_core.specs.declared.types.Ty.{Ty}
-use Rattle.ir_core.specs.declared.instructions.Kind.{Kind}
-use Rattle.ir_core.specs.declared.instructions.Kind.TheVariants.{Call}
 use Rattle.ir_core.specs.declared.instructions.Inst.{Inst}
 use Rattle.ir_core.specs.declared.module.Block.{Block}
 use Rattle.ir_core.specs.declared.module.Function.{Function}
 use Rattle.ir_core.specs.declared.module.Module.{Module}
 use Rattle.ir_core.specs.Layout.{WellFormed}
-use Rattle.ir_core.specs.MachineOff.{kind_off, inst_off, block_off, function_off, machine_off}
+use Rattle.ir_core.specs.MachineOff.{inst_off, block_off, function_off, machine_off}
 use Rattle.ir_core.specs.Places.{Place, block_in, inst_in, inst_at}
 use Rattle.shapes.specs.Facts.{insts_in}
 use Rattle.shapes.specs.KernelShape.{kernel_refusals}
@@ -20,8 +18,7 @@ use Rattle.shapes.specs.Refusals.{shape_refusals}
 use Rattle.accepted_laws.proofs.Nothing.{back_none}
 use Rattle.accepted_laws.proofs.Few.{instructions_are_few}
 use Rattle.accepted_laws.proofs.Sizes.{types_have_sizes}
-use Rattle.checked_modules.specs.Checked.{HasNoShapeRefusal, HasNoRefusal, IsSwitchedOff, IsOutput}
-use Rattle.checked_modules.proofs.Counts.{as_many}
+use Rattle.checked_modules.specs.Checked.{HasNoShapeRefusal, HasNoRefusal, IsOutput}
 
 -- ---- few instructions
 
@@ -30,18 +27,14 @@ nothing_in : {A : Type 0} (xs : List A) → ((place : ℕ) (x : A) → slice_get
 nothing_in [] h = refl
 nothing_in (x ∷ xs) h = absurd (h 0 x refl)
 
-no_refusals : (m : Module) → HasNoShapeRefusal m → shape_refusals m ≡ []
+pub no_refusals : (m : Module) → HasNoShapeRefusal m → shape_refusals m ≡ []
 no_refusals m h = nothing_in (shape_refusals m) (λ place r is. h r (inl (place, is)))
 
-accepted_few : (m : Module) → HasNoRefusal m → length (insts_in m) ≤ instruction_limit
+pub accepted_few : (m : Module) → HasNoRefusal m → length (insts_in m) ≤ instruction_limit
 accepted_few m h = instructions_are_few m (back_none (kernel_refusals m ++ wrapper_refusals m ++ clause_refusals m) (limit_refusals m) (no_refusals m h.shapes))
 
-switched_few : (m : Module) → IsSwitchedOff m → length (insts_in m) ≤ instruction_limit
-switched_few m h = subst (λ n. n ≤ instruction_limit) (sym (ap (λ o. length (insts_in o)) h.2 ∙ as_many h.0)) (accepted_few h.0 h.1)
-
 pub output_few : (m : Module) → IsOutput m → length (insts_in m) ≤ instruction_limit
-output_few m (inl h) = accepted_few m h
-output_few m (inr h) = switched_few m h
+output_few m h = instructions_are_few m h.limits
 
 -- ---- types that have sizes
 
@@ -49,9 +42,10 @@ output_few m (inr h) = switched_few m h
 abbrev pub TypesAreSized : Module → Type 0
 TypesAreSized m = (p : Place) (i : Inst) (place : ℕ) (ty : Ty) → inst_at m p ≡ Some i → slice_get (kind_types i.kind) place ≡ Some ty → WellFormed m.types ty
 
-same_types : (k : Kind) → kind_types (kind_off k) ≡ kind_types k
-same_types (Call tail_word ret callee operands) = refl
-same_types _ = refl
+pub output_sized : (m : Module) → IsOutput m → TypesAreSized m
+output_sized m h = λ p i place ty is has. types_have_sizes m h.formed h.names p i place ty is has
+
+-- ---- the machines switched off
 
 block_off_in : (o : Option Function) (at : ℕ) → block_in (option_map function_off o) at ≡ option_map block_off (block_in o at)
 block_off_in None at = refl
@@ -67,15 +61,3 @@ inst_off_at m p =
     ap (λ f. inst_in (block_in f p.block) p.index) (slice_get-map function_off m.functions p.function)
     ∙ ap (λ b. inst_in b p.index) (block_off_in (slice_get m.functions p.function) p.block)
     ∙ inst_off_in (block_in (slice_get m.functions p.function) p.block) p.index
-
-module _ (source : Module) (h : HasNoRefusal source) where
-  off_sized : TypesAreSized (machine_off source)
-  off_sized p i place ty is has = by (inst_at source p) refl (sym (inst_off_at source p) ∙ is)
-    where
-      by : (o : Option Inst) → inst_at source p ≡ o → option_map inst_off o ≡ Some i → WellFormed source.types ty
-      by None e f = absurd (none-some i f)
-      by (Some j) e f = types_have_sizes source h.formed h.names p j place ty e (sym (ap (λ tys. slice_get tys place) (same_types j.kind)) ∙ ap (λ (k : Inst). slice_get (kind_types k.kind) place) (same_Some (inst_off j) i f) ∙ has)
-
-pub output_sized : (m : Module) → IsOutput m → TypesAreSized m
-output_sized m (inl h) = λ p i place ty is has. types_have_sizes m h.formed h.names p i place ty is has
-output_sized m (inr h) = subst TypesAreSized (sym h.2) (off_sized h.0 h.1)

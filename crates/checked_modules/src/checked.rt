@@ -94,8 +94,8 @@ impl Checked {
     }
 }
 
-/// A module that the optimiser may give, with tables of its names or without: a kernel's init call may tell the workers to run no state
-/// machine. Contracts see the module.
+/// A module that the optimiser may give, with tables of its names or without: some text spells it, and nothing is refused of it, but that
+/// the flag of a kernel's init call may be 0, so that its workers run no state machine. Contracts see the module.
 #[derive(Drop)]
 pub struct OutModule {
     indexed: Indexed,
@@ -118,7 +118,9 @@ impl Model for OutModule {
 }
 
 impl OutModule {
-    /// The module, known to be one that the optimiser may give, without tables.
+    /// The module, without tables. It is known that some text spells it, and that nothing is refused of its names and types, of its
+    /// wrappers and forks, of its clauses, of its size and of regions within regions, nor of its kernels, whose state machines may be on or
+    /// off.
     pub fn new(m: Module) -> OutModule
         requires { IsOutput m }
         ensures { result ≡ m }
@@ -129,7 +131,7 @@ impl OutModule {
         }
     }
 
-    /// The module, known to be one that the optimiser may give, with its tables.
+    /// The module, of which the same is known, with its tables.
     pub fn of(alloc: Global, m: Module) -> Result<OutModule, OutOfMemory>
         requires { IsOutput m }
         ensures { IfOk result (λ o. o ≡ m) }

@@ -11,5 +11,6 @@ pub mod OffRules
 pub mod OffWalks
 pub mod OffWrappers
 pub mod OutputKernels
+pub mod OutputModules
 pub mod Refused
 pub mod SwitchedOff

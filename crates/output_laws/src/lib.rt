@@ -17,7 +17,8 @@ ghost use Rattle.shapes.specs.Limits.{limit_refusals};
 ghost use Rattle.shapes.specs.Wrappers.{wrapper_refusals};
 ghost use Rattle.formed_parts.specs.Edits.{module_edited};
 ghost use Rattle.output_laws.specs.Names.{KeepsNames, KeepsRules};
-ghost use Rattle.output_laws.specs.OutputKernels.{is_switched_off_init, kernel_refusals_by, output_kernel_refusals};
+ghost use Rattle.checked_modules.specs.Checked.{HasNoRefusal, IsOutput};
+ghost use Rattle.checked_modules.specs.OutputKernels.{is_switched_off_init, kernel_refusals_by, output_kernel_refusals};
 
 /// Nothing is refused of names and types where each instruction is replaced by one that gives the same names and keeps the rules of its kind.
 pub fn edits_keep_names()
@@ -78,4 +79,14 @@ pub fn off_switches_kernels()
 /// As a module that is taken, one whose unused state machine is switched off is refused at its init calls, and nowhere else, where nothing was refused of names and kernels before.
 pub fn off_refuses_inits()
     ensures { (m : Module) → name_refusals m ≡ [] → kernel_refusals m ≡ [] → kernel_refusals (machine_off m) ≡ kernel_refusals_by (λ i. false) m }
+{}
+
+/// A module of which nothing is refused is one that the optimiser may give.
+pub fn accepted_is_output()
+    ensures { (m : Module) → HasNoRefusal m → IsOutput m }
+{}
+
+/// A module of which nothing is refused is one that the optimiser may give when its unused state machine is switched off.
+pub fn off_is_output()
+    ensures { (m : Module) → HasNoRefusal m → IsOutput (machine_off m) }
 {}

@@ -1,12 +1,13 @@
-use Rattle.std.proofs.Common.{sym, subst, ap, ◌∙◌, inr}
+use Rattle.std.proofs.Common.{sym, subst, ap, ◌∙◌}
 use Rattle.ir_core.specs.MachineOff.{machine_off}
 use Rattle.checked_modules.specs.Checked.{IsOutput}
 use Rattle.refine_laws.specs.Refines.{RefinesSource}
 use Rattle.refine_laws.proofs.Refining.{machine_off_refines}
+use Rattle.output_laws.proofs.OutputModules.{off_is_output}
 use Rattle.opt_core.proofs.optimiser.optimise.Goals as goal
 
 pub of-requires : goal.of-requires
-of-requires c = inr (c.args.m.now, c.module-source.ensures.rules, c.in_ok-out.ensures ∙ ap machine_off c.module-source.ensures.same)
+of-requires c = subst IsOutput (sym (c.in_ok-out.ensures ∙ ap machine_off c.module-source.ensures.same)) (off_is_output c.args.m.now c.module-source.ensures.rules)
 
 pub returns-clause-refines : goal.returns-clause-refines
 returns-clause-refines c =

@@ -1,6 +1,5 @@
-use Rattle.std.proofs.Common.{inl}
-use Rattle.checked_modules.proofs.Outputs.{output_few}
+use Rattle.checked_modules.proofs.Outputs.{accepted_few}
 use Rattle.checked_modules.proofs.checked.Checked.seal.Goals as goal
 
 pub can_be_counted-requires : goal.can_be_counted-requires
-can_be_counted-requires c = output_few c.args.m (inl c.requires)
+can_be_counted-requires c = accepted_few c.args.m c.requires
