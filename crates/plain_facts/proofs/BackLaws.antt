@@ -120,6 +120,16 @@ module _ (m : Module) where
       let P : Hop → Type 0 = λ k. IsNode m k.from × IsNode m k.to in
       subst P (sym r.is) (number_within m r.at r.end r.from r.end_number, number_within m r.at r.start r.to r.start_number)
 
+  root_is : (h : Hop) (y : Node) (b : Bool) → Stands (if b then h.to ∷ [] else []) y → y ≡ h.to
+  root_is h y true s = last_is h.to y s
+  root_is h y false s = absurd (none_among y s)
+
+  pub roots_are : (own : List Own) → AreNodes m (all_roots own (all_backs m))
+  roots_are own y s =
+      let w = within_joined (hop_roots own) (all_backs m) y s in
+      let P : Node → Type 0 = λ z. IsNode m z in
+      subst P (sym (root_is w.0 y (is_used_at own w.0.from) w.2)) (backs_join w.0 w.1).1
+
   -- ---- what is given has a number
 
   pub result_has : (at : ℕ) (i : Inst) (x : Name) → StandsIn m at i → i.result ≡ Some x → (n : ℕ) × (number_of m at x ≡ Some n)
@@ -219,12 +229,6 @@ module _ (m : Module) where
     beyond_is n h =
         let k = leads_least (HopsOver (all_backs m)) Known by_hop h.0 (Register n) (root_known h.0 h.1) h.2 in
         subst Beyond (sym (register_same n k.0 k.1)) k.2
-
-    pub roots_are : AreNodes m (all_roots own (all_backs m))
-    roots_are y s =
-        let k = root_known y s in
-        let P : Node → Type 0 = λ z. IsNode m z in
-        subst P (sym k.1) (number_within m k.2.at k.2.start k.0 k.2.number)
 
     -- ---- the other way
 

@@ -1,8 +1,8 @@
 -- What the uses say of a register: one more use, what is allowed, and whether there is one.
-use Rattle.std.proofs.Common.{◌≡◌, ◌⊎◌, ◌==◌, ◌<◌, ℕ, zero, suc, List, [], ◌∷◌, ◌++◌, length, replicate, Bool, true, false, Option, Some, None, inl, inr, refl, sym, ap, subst, ◌∙◌, slice_get, slice_set, if◌then◌else◌, arith}
+use Rattle.std.proofs.Common.{◌≡◌, ◌⊎◌, ◌==◌, ◌<◌, ◌+◌, ℕ, zero, suc, List, [], ◌∷◌, ◌++◌, length, take, get_or, Bool, true, false, Option, Some, None, inl, inr, refl, sym, ap, subst, ◌∙◌, slice_get, slice_set, if◌then◌else◌, arith}
 use Rattle.std.proofs.lemmas.Bool.Decides.{nat_tests}
-use Rattle.std.proofs.lemmas.List.{length-set}
-use Rattle.std.proofs.lemmas.Option.{none-some, same_Some}
+use Rattle.std.proofs.lemmas.List.{length-set, take_more}
+use Rattle.std.proofs.lemmas.Option.{none-some, same_Some, slice_get-get_or}
 use Rattle.ir_core.specs.declared.instructions.Value.{Value}
 use Rattle.ir_core.specs.declared.instructions.Value.TheVariants.{Int as IntValue}
 use Rattle.accepted_laws.proofs.Nothing.{not_both}
@@ -56,6 +56,17 @@ module _ (count : ℕ) (us : List Use) (row new : List Own) (u : Use) (old : Own
   own_next =
       let P : List Own → Type 0 = λ r. AreOwn count (us ++ u ∷ []) r in
       subst P (sym is) (length-set row u.register _ ∙ are.0, λ n within. at n within (u.register == n) refl)
+
+-- one more use of a list
+module _ (uses : List Use) (n : ℕ) (d : Use) (within : n < length uses) where
+  pub use_at : Stands uses (get_or uses n d)
+  use_at = (n, slice_get-get_or uses n d within)
+
+  pub own_later : (count : ℕ) (row new : List Own) (old : Own) → AreOwn count (take n uses) row → (get_or uses n d).register < count → slice_get row (get_or uses n d).register ≡ Some old
+      → new ≡ slice_set row (get_or uses n d).register (joined old (get_or uses n d).released) → AreOwn count (take (n + 1) uses) new
+  own_later count row new old are low read is =
+      let P : List Use → Type 0 = λ us. AreOwn count us new in
+      subst P (sym (take_more uses n d within)) (own_next count (take n uses) row new (get_or uses n d) old are low read is)
 
 -- ---- what is allowed
 

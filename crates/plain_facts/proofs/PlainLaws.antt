@@ -56,7 +56,7 @@ last_hop : {A : Type 0} (Hop : A → A → Type 0) (x y : A) (through : List A) 
 last_hop Hop x y [] c = inl c
 last_hop {A} Hop x y (z ∷ zs) c = elim (last_hop Hop z y zs c.1) [
   | inl e ↦ inr (x, leads_itself Hop x, subst (λ (w : A). Hop x w) e c.0)
-  | inr r ↦ inr (r.0, (z ∷ r.1.0, c.0, r.1.1), r.2)
+  | inr r ↦ inr (r.0, (z ∷ r.1.0, (c.0, r.1.1)), r.2)
 ]
 
 -- a getelementptr is no call
