@@ -1,30 +1,27 @@
 -- Which registers getelementptr leads from to others that are used otherwise.
-use Rattle.std.proofs.Common.{◌≡◌, ◌<◌, ◌+◌, ℕ, List, [], ◌∷◌, ◌++◌, map, Bool, true, false, Option, Some, None, refl, sym, ap, subst, ◌∙◌, slice_get, if◌then◌else◌, arith}
+use Rattle.std.proofs.Common.{◌≡◌, ◌+◌, ℕ, List, [], ◌∷◌, map, Bool, true, false, Option, Some, None, refl, sym, ap, subst, ◌∙◌, slice_get, if◌then◌else◌, arith}
 use Rattle.std.specs.List.{flat_map}
 use Rattle.std.specs.Option.{is_some}
-use Rattle.std.proofs.lemmas.Option.{none-some, same_Some}
-use Rattle.ir_core.specs.declared.instructions.Value.{Value}
+use Rattle.std.proofs.lemmas.Option.{none-some}
 use Rattle.ir_core.specs.declared.instructions.Value.TheVariants.{Local as LocalValue}
-use Rattle.ir_core.specs.declared.instructions.Typed.{Typed}
 use Rattle.ir_core.specs.declared.instructions.Kind.{Kind}
 use Rattle.ir_core.specs.declared.instructions.Kind.TheVariants.{Gep}
 use Rattle.ir_core.specs.declared.instructions.Inst.{Inst}
 use Rattle.ir_core.specs.declared.module.Module.{Module}
 use Rattle.ir_core.specs.declared.module.Function.{Function}
 use Rattle.ir_core.specs.Places.{Name, place_in, param_name, result_names, inst_results, block_results, register_names_of, register_names}
-use Rattle.accepted_laws.proofs.Nothing.{not_both}
 use Rattle.shapes.specs.Facts.{insts_of}
 use Rattle.shapes.specs.Insts.{block_insts}
 use Rattle.reach.specs.Chains.{Leads}
 use Rattle.reach.proofs.ChainLaws.{leads_itself, leads_through, leads_by_hop, leads_least}
-use Rattle.call_graph.proofs.ListLaws.{Among, none_among, in_front, behind, in_either, last_is, within_joined, joined_has}
+use Rattle.call_graph.proofs.ListLaws.{Among, none_among, behind, last_is, within_joined, joined_has}
 use Rattle.call_graph.proofs.NameLaws.{is_among}
 use Rattle.name_uses.proofs.UseLaws.{placed}
 use Rattle.register_numbers.specs.Numbers.{number_of, register_count}
 use Rattle.register_numbers.proofs.Apart.{has_number, number_within, one_register}
 use Rattle.register_hops.specs.declared.hops.Hop.{Hop}
 use Rattle.register_hops.specs.declared.nodes.Node.{Node}
-use Rattle.register_hops.specs.declared.nodes.Node.TheVariants.{Register, Elsewhere, Region, Returned, Stored, Loaded, Main}
+use Rattle.register_hops.specs.declared.nodes.Node.TheVariants.{Register}
 use Rattle.register_hops.specs.Numbered.{Stands, IsNode, AreNodes, JoinNodes, HopsOver, IsReachedBy}
 use Rattle.register_hops.proofs.PlacedLaws.{given_at, is_given_at}
 use Rattle.value_facts.specs.Pointers.{StandsIn}
@@ -32,7 +29,7 @@ use Rattle.value_facts.specs.Plain.{UsesOtherwise, GoesOn}
 use Rattle.plain_facts.specs.declared.own.Own.{Own}
 use Rattle.plain_facts.specs.declared.own.Own.TheVariants.{Unused}
 use Rattle.plain_facts.specs.Uses.{value_number, all_uses, own_of, AreOwn}
-use Rattle.plain_facts.specs.Backs.{result_number, back_from, back, kind_backs, inst_backs, function_backs, all_backs, is_used, is_used_at, hop_roots, all_roots}
+use Rattle.plain_facts.specs.Backs.{result_number, back, kind_backs, inst_backs, function_backs, all_backs, is_used, is_used_at, hop_roots, all_roots}
 use Rattle.plain_facts.proofs.OwnLaws.{used_of, used_by}
 use Rattle.plain_facts.proofs.UseLaws.{value_is, is_use, use_stands}
 
@@ -185,17 +182,20 @@ module _ (m : Module) where
     of_root : (h : Hop) (y : Node) → IsBack h → (b : Bool) → is_used_at own h.from ≡ b → Stands (if b then h.to ∷ [] else []) y → Known y
     of_root h y r false e s = absurd (none_among y s)
     of_root h y r true e s =
-        let test : is_used (slice_get own r.from) ≡ true = ap (λ (k : Hop). is_used_at own k.from) (sym r.is) ∙ e in
-        (r.to, last_is h.to y s ∙ ap (λ (k : Hop). k.to) r.is, record {
-          at = r.at;
-          start = r.start;
-          number = r.start_number;
-          last = r.start;
-          leads = leads_itself (GoesOn m r.at) r.start;
-          end = r.end;
-          goes = r.goes;
-          used = register_used r.at r.end r.from r.end_number test;
-        })
+        let test : is_used (slice_get own r.from) ≡ true = ap (λ (k : Hop). is_used_at own k.from) (sym r.is) ∙ e in (
+          r.to,
+          last_is h.to y s ∙ ap (λ (k : Hop). k.to) r.is,
+          record {
+            at = r.at;
+            start = r.start;
+            number = r.start_number;
+            last = r.start;
+            leads = leads_itself (GoesOn m r.at) r.start;
+            end = r.end;
+            goes = r.goes;
+            used = register_used r.at r.end r.from r.end_number test;
+          },
+        )
 
     root_known : (y : Node) → Stands (all_roots own (all_backs m)) y → Known y
     root_known y s = let w = within_joined (hop_roots own) (all_backs m) y s in of_root w.0 y (is_back w.0 w.1) (is_used_at own w.0.from) refl w.2

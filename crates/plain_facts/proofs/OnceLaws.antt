@@ -1,7 +1,7 @@
 -- A register is the result of one instruction alone.
 use Rattle.std.proofs.Common.{◌≡◌, ℕ, zero, suc, ◌+◌, List, [], ◌∷◌, ◌++◌, map, Bool, true, false, Option, Some, None, refl, sym, ap, subst, ◌∙◌, slice_get, if◌then◌else◌}
 use Rattle.std.specs.List.{flat_map}
-use Rattle.std.proofs.lemmas.Option.{none-some, same_Some, slice_get-map}
+use Rattle.std.proofs.lemmas.Option.{none-some, same_Some}
 use Rattle.ir_core.specs.declared.refusal.Construct.TheVariants.{DuplicateName}
 use Rattle.ir_core.specs.declared.instructions.Inst.{Inst}
 use Rattle.ir_core.specs.declared.module.Block.{Block}
@@ -18,7 +18,7 @@ use Rattle.shapes.specs.Insts.{block_insts}
 use Rattle.accepted_laws.proofs.Nothing.{not_both, something, front_none, back_none, each_none}
 use Rattle.accepted_laws.proofs.Clean.{clean}
 use Rattle.accepted_laws.proofs.Distinct.{in_first, in_more}
-use Rattle.call_graph.proofs.ListLaws.{Among, none_among, in_front, behind, within_joined, joined_has}
+use Rattle.call_graph.proofs.ListLaws.{Among, in_front, behind, within_joined, joined_has}
 use Rattle.value_facts.specs.Pointers.{StandsIn}
 
 abbrev Entry : Type 0
@@ -97,10 +97,10 @@ blocks_same : (at : ℕ) (bs : List Block) → map untagged (block_tags bs) ≡ 
 blocks_same at [] = refl
 blocks_same at (b ∷ bs) =
     ap (λ zs. (b.name, b.line) ∷ zs) (
-      joined_map untagged (flat_map inst_tags b.insts) (block_tags bs)
-      ∙ ap (λ zs. zs ++ map untagged (block_tags bs)) (insts_same b.insts)
-      ∙ ap (λ zs. map entry (flat_map inst_names b.insts) ++ zs) (blocks_same (at + 1) bs)
-      ∙ sym (joined_map entry (flat_map inst_names b.insts) (block_names (at + 1) bs))
+    joined_map untagged (flat_map inst_tags b.insts) (block_tags bs)
+    ∙ ap (λ zs. zs ++ map untagged (block_tags bs)) (insts_same b.insts)
+    ∙ ap (λ zs. map entry (flat_map inst_names b.insts) ++ zs) (blocks_same (at + 1) bs)
+    ∙ sym (joined_map entry (flat_map inst_names b.insts) (block_names (at + 1) bs))
     )
 
 params_same : (line : ℕ) (ps : List Param) → map untagged (map (param_tag line) ps) ≡ map entry (map (param_name line) ps)

@@ -12,7 +12,7 @@ use Rattle.register_hops.specs.Numbered.{Stands}
 use Rattle.plain_facts.specs.declared.uses.Use.{Use}
 use Rattle.plain_facts.specs.declared.own.Own.{Own}
 use Rattle.plain_facts.specs.declared.own.Own.TheVariants.{Unused, Released, Otherwise}
-use Rattle.plain_facts.specs.Uses.{both, joined, with_use, own_behind, own_of, AreOwn}
+use Rattle.plain_facts.specs.Uses.{joined, with_use, own_behind, own_of, AreOwn}
 use Rattle.plain_facts.specs.Backs.{is_used}
 use Rattle.plain_facts.specs.Reads.{allows}
 

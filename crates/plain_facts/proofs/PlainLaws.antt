@@ -1,5 +1,5 @@
 -- What the rows tell of an allocation is whether it is used plainly.
-use Rattle.std.proofs.Common.{◌≡◌, ◌⊎◌, ◌↔◌, ◌&&◌, ◌<◌, ℕ, List, [], ◌∷◌, Bool, true, false, not, Option, Some, None, inl, inr, refl, sym, ap, subst, ◌∙◌, slice_get}
+use Rattle.std.proofs.Common.{◌≡◌, ◌⊎◌, ◌↔◌, ◌<◌, ℕ, List, [], ◌∷◌, Bool, true, false, not, Option, Some, None, inl, inr, refl, sym, ap, subst, ◌∙◌, slice_get}
 use Rattle.std.proofs.lemmas.Bool.{and_parts}
 use Rattle.std.proofs.lemmas.Option.{none-some, same_Some}
 use Rattle.ir_core.specs.declared.instructions.Value.{Value}
@@ -23,12 +23,11 @@ use Rattle.register_numbers.specs.Numbers.{number_of, register_count}
 use Rattle.register_numbers.proofs.Apart.{number_within, one_register}
 use Rattle.value_facts.specs.Pointers.{StandsIn}
 use Rattle.value_facts.specs.Plain.{UsesOtherwise, GoesOn, Releases, IsUsedPlainly, Plain}
-use Rattle.plain_facts.specs.declared.uses.Use.{Use}
 use Rattle.plain_facts.specs.declared.own.Own.{Own}
 use Rattle.plain_facts.specs.declared.own.Own.TheVariants.{Unused}
-use Rattle.plain_facts.specs.Uses.{all_uses, own_of, release_of, size_released}
-use Rattle.plain_facts.specs.Reads.{AreRows, allows, is_allowed, is_true, is_plain_number, is_plain_result, is_plain_inst}
-use Rattle.plain_facts.proofs.OwnLaws.{IsReleasedAs, AllReleased, allowed_is, allowed_of}
+use Rattle.plain_facts.specs.Uses.{all_uses, release_of, size_released}
+use Rattle.plain_facts.specs.Reads.{AreRows, is_allowed, is_true, is_plain_number, is_plain_result, is_plain_inst}
+use Rattle.plain_facts.proofs.OwnLaws.{AllReleased, allowed_is, allowed_of}
 use Rattle.plain_facts.proofs.UseLaws.{is_use, use_stands, releases, size_of_release}
 use Rattle.plain_facts.proofs.BackLaws.{Beyond, beyond_is, beyond_reached, result_has}
 use Rattle.plain_facts.proofs.OnceLaws.{one_result}

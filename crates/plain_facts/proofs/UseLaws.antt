@@ -1,11 +1,10 @@
 -- Which instruction makes a use, and what it says of a release.
-use Rattle.std.proofs.Common.{◌≡◌, ◌⊎◌, ◌==◌, ◌<◌, ◌+◌, ℕ, List, [], ◌∷◌, ◌++◌, Bool, true, false, Option, Some, None, inl, inr, refl, sym, ap, subst, ◌∙◌, slice_get, if◌then◌else◌, arith}
+use Rattle.std.proofs.Common.{◌≡◌, ◌==◌, ◌+◌, ℕ, List, ◌++◌, Bool, true, false, Option, Some, None, inl, inr, refl, sym, ap, subst, ◌∙◌, slice_get, if◌then◌else◌, arith}
 use Rattle.std.specs.List.{flat_map}
 use Rattle.std.proofs.lemmas.Option.{none-some, same_Some}
 use Rattle.ir_core.specs.declared.instructions.Value.{Value}
 use Rattle.ir_core.specs.declared.instructions.Value.TheVariants.{Int as IntValue, Null, Local as LocalValue, Global as GlobalValue}
 use Rattle.ir_core.specs.declared.instructions.Typed.{Typed}
-use Rattle.ir_core.specs.declared.instructions.Edge.{Edge}
 use Rattle.ir_core.specs.declared.instructions.Kind.{Kind}
 use Rattle.ir_core.specs.declared.instructions.Kind.TheVariants.{Bin, ICmp, Cast, Select, Phi, Store, Rmw, Gep, Call, CondBr, Switch, Ret}
 use Rattle.ir_core.specs.declared.instructions.Inst.{Inst}
@@ -174,11 +173,11 @@ module _ (m : Module) where
     pub size_of_release : Releases k x i → size_released (release_of m at i) n ≡ Some k
     size_of_release h =
         ap (λ (r : Option Release). size_released r n) (
-          ap (λ t. if t then release_of_operands m at (operand_of i 0) (operand_of i 1) else None) h.2
-          ∙ ap (λ o. release_of_operands m at o (operand_of i 1)) h.3
-          ∙ ap (λ o. release_of_operands m at (Some h.0) o) h.4
-          ∙ ap (λ v. release_by (value_number m at v) h.1.value) h.5
-          ∙ ap (λ v. release_by (number_of m at x) v) h.6
-          ∙ ap (λ o. release_by o (IntValue k)) number
+        ap (λ t. if t then release_of_operands m at (operand_of i 0) (operand_of i 1) else None) h.2
+        ∙ ap (λ o. release_of_operands m at o (operand_of i 1)) h.3
+        ∙ ap (λ o. release_of_operands m at (Some h.0) o) h.4
+        ∙ ap (λ v. release_by (value_number m at v) h.1.value) h.5
+        ∙ ap (λ v. release_by (number_of m at x) v) h.6
+        ∙ ap (λ o. release_by o (IntValue k)) number
         )
         ∙ ap (λ t. if t then Some k else None) (is_itself n n refl)

@@ -1,5 +1,5 @@
 -- What is kept of a module, and how it tells whether an allocation is used plainly.
-use Rattle.std.specs.Prelude.{◌≡◌, ◌==◌, ◌&&◌, ℕ, List, Bool, true, false, not, Option, Some, None, slice_get}
+use Rattle.std.specs.Prelude.{◌==◌, ◌&&◌, ℕ, List, Bool, true, false, not, Option, Some, None, slice_get}
 use Rattle.ir_core.specs.declared.instructions.Value.{Value}
 use Rattle.ir_core.specs.declared.instructions.Value.TheVariants.{Int as IntValue}
 use Rattle.ir_core.specs.declared.instructions.Typed.{Typed}
@@ -12,7 +12,7 @@ use Rattle.shapes.specs.Facts.{is_call_of, operand_of}
 use Rattle.register_numbers.specs.Numbers.{number_of, register_count}
 use Rattle.register_hops.specs.Numbered.{AreReachedRegisters}
 use Rattle.plain_facts.specs.declared.own.Own.{Own}
-use Rattle.plain_facts.specs.declared.own.Own.TheVariants.{Unused, Released, Otherwise}
+use Rattle.plain_facts.specs.declared.own.Own.TheVariants.{Unused, Released}
 use Rattle.plain_facts.specs.Uses.{all_uses, AreOwn}
 use Rattle.plain_facts.specs.Backs.{all_backs, all_roots}
 

@@ -1,6 +1,6 @@
 -- The uses of registers otherwise than as the pointer of an access or of a getelementptr, in the order of the text, and what they say of
 -- each register.
-use Rattle.std.specs.Prelude.{◌≡◌, ◌==◌, ◌<◌, ℕ, List, [], ◌∷◌, ◌++◌, length, Bool, true, false, Option, Some, None, slice_get, if◌then◌else◌}
+use Rattle.std.specs.Prelude.{◌≡◌, ◌==◌, ◌<◌, ℕ, List, [], ◌∷◌, ◌++◌, length, Option, Some, None, slice_get, if◌then◌else◌}
 use Rattle.std.specs.List.{flat_map}
 use Rattle.ir_core.specs.declared.instructions.Value.{Value}
 use Rattle.ir_core.specs.declared.instructions.Value.TheVariants.{Local as LocalValue, Int as IntValue}
@@ -13,7 +13,7 @@ use Rattle.ir_core.specs.declared.module.Module.{Module}
 use Rattle.ir_core.specs.declared.module.Function.{Function}
 use Rattle.ir_core.specs.declared.rtl.Rtl.TheVariants.{FreeShared}
 use Rattle.shapes.specs.Facts.{insts_of, is_call_of, operand_of}
-use Rattle.register_numbers.specs.Numbers.{number_of, register_count}
+use Rattle.register_numbers.specs.Numbers.{number_of}
 use Rattle.register_hops.specs.Placed.{by_place}
 use Rattle.register_hops.specs.Numbered.{Stands}
 use Rattle.plain_facts.specs.declared.uses.Use.{Use}

@@ -24,11 +24,7 @@ fn result_number(numbering: &Numbering, at: usize, name: &Option<Name>) -> Optio
 }
 
 /// Adds the hop between two registers, if there are both.
-fn add_back(
-    hops: &mut List<Hop>,
-    from: Option<usize>,
-    to: Option<usize>,
-) -> Result<(), OutOfMemory>
+fn add_back(hops: &mut List<Hop>, from: Option<usize>, to: Option<usize>) -> Result<(), OutOfMemory>
     ensures { OnOk result (hops.new ≡ hops.old ++ spec.back from to) }
 {
     if let Some(from) = from {

@@ -189,7 +189,15 @@ fn add_kind(
         Kind::ICmp { a, b, .. } => add_both(uses, numbering, at, release, a, b),
         Kind::Cast { from, .. } => add_use(uses, numbering, at, release, &from.value),
         Kind::Select { cond, a, b } => {
-            add_select(uses, numbering, at, release, &cond.value, &a.value, &b.value)
+            add_select(
+                uses,
+                numbering,
+                at,
+                release,
+                &cond.value,
+                &a.value,
+                &b.value,
+            )
         }
         Kind::Phi { edges, .. } => add_edges(uses, numbering, at, release, edges.as_slice()),
         Kind::Store { value, .. } => add_use(uses, numbering, at, release, &value.value),

@@ -1,7 +1,6 @@
-use Rattle.std.proofs.Common.{List, ℕ, length, sym, subst, ap, ◌≡◌, ◌∙◌}
+use Rattle.std.proofs.Common.{List, ℕ, sym, subst, ◌∙◌}
 use Rattle.ir_core.specs.declared.module.Module.{Module}
 use Rattle.checked_modules.specs.Checked.{HasNoRefusal}
-use Rattle.register_numbers.specs.Numbers.{register_count}
 use Rattle.register_hops.specs.Numbered.{AreReachedRegisters}
 use Rattle.plain_facts.specs.declared.uses.Use.{Use}
 use Rattle.plain_facts.specs.declared.own.Own.{Own}

@@ -17,7 +17,7 @@ returns-in-Some c =
     let p : Place = record { function = c.args.function; block = c.args.block; index = c.args.index } in
     let is : inst_at m p ≡ Some i = ap (λ (k : Module). inst_at k p) (sym (c.module.ensures ∙ c.indexed.ensures)) ∙ sym c.in-Some.ensures in
     let result : c.is_plain_inst.result ≡ is_plain_inst m own beyond p.function i =
-      c.is_plain_inst.ensures ∙ ap (λ (o : List Own). is_plain_inst m o c.as_slice-in-Some.result.now p.function i) c.as_slice.ensures ∙ ap (λ (b : List Bool). is_plain_inst m own b p.function i) c.as_slice-in-Some.ensures in
+    c.is_plain_inst.ensures ∙ ap (λ (o : List Own). is_plain_inst m o c.as_slice-in-Some.result.now p.function i) c.as_slice.ensures ∙ ap (λ (b : List Bool). is_plain_inst m own b p.function i) c.as_slice-in-Some.ensures in
     let law = plain_is m own beyond c.self.invariant p i is in
     let P : Module → Type 0 = λ k. (c.is_plain_inst.result ≡ true) ↔ Plain k p in
     subst P c.self.view_is (λ e. law.0 (sym result ∙ e), λ h. result ∙ law.1 h)
