@@ -1,0 +1,5 @@
+mod OwnLaws
+mod UseLaws
+mod BackLaws
+mod OnceLaws
+mod PlainLaws
