@@ -57,11 +57,11 @@ module _ (m : Module) (at to : ℕ) (i : Inst) (stands : StandsIn m at i) (tail_
   calls_function (LocalValue x) is e = absurd (none-some to e)
 
 module _ (m : Module) (at to : ℕ) (i : Inst) where
-  called_by : StandsIn m at i → (kind : Kind) → i.kind ≡ kind → called_place m kind ≡ Some to → (operands : List Typed) × CallsFunction m at to i operands
+  pub called_by : StandsIn m at i → (kind : Kind) → i.kind ≡ kind → called_place m kind ≡ Some to → (operands : List Typed) × CallsFunction m at to i operands
   called_by stands (Call tail_word ret callee operands) is e = (operands, calls_function m at to i stands tail_word ret operands callee is e)
   called_by stands _ is e = absurd (none-some to e)
 
-  place_called : (operands : List Typed) → CallsFunction m at to i operands → called_place m i.kind ≡ Some to
+  pub place_called : (operands : List Typed) → CallsFunction m at to i operands → called_place m i.kind ≡ Some to
   place_called operands c =
       ap (called_place m) c.is
       ∙ ap (option_and_then (λ k. if_defined k (slice_get m.functions k))) c.named
@@ -85,7 +85,7 @@ module _ (m : Module) (p : Place) (i : Inst) where
   in_function None there e = absurd (none-some i e)
   in_function (Some f) there e = in_block f (slice_get f.blocks p.block) there refl e
 
-  stands_at : inst_at m p ≡ Some i → StandsIn m p.function i
+  pub stands_at : inst_at m p ≡ Some i → StandsIn m p.function i
   stands_at e = in_function (slice_get m.functions p.function) refl e
 
   module _ (effects alone guarded : List Bool) (are : AreMarks m effects alone guarded) (is : inst_at m p ≡ Some i) where
