@@ -1,0 +1,4 @@
+mod LineLaws
+mod InstLaws
+mod FunctionLaws
+mod WalkLaws

@@ -1,0 +1,12 @@
+//! Whether a kernel can run in SPMD mode: for each of six rules the first line at which it is broken (LLVM's OpenMPOpt documentation,
+//! "SPMDization").
+#![tactic(auto)]
+
+mod functions;
+mod insts;
+mod lines;
+mod walks;
+
+pub use insts::InstRule;
+pub use functions::{FunctionRule, first_function, line_without_region};
+pub use walks::first_inst;
