@@ -1,13 +1,12 @@
 -- What one function breaks.
-use Rattle.std.proofs.Common.{◌≡◌, ◌↔◌, ◌⊎◌, ℕ, ◌+◌, ◌<◌, List, [], length, Bool, true, Option, Some, None, slice_get, inl, inr, refl, sym, ap, subst, ◌∙◌, arith}
+use Rattle.std.proofs.Common.{◌≡◌, ◌↔◌, ◌⊎◌, ℕ, ◌+◌, ◌<◌, [], Bool, true, Some, None, slice_get, inl, inr, refl, sym, ap, subst, ◌∙◌, arith}
 use Rattle.std.proofs.lemmas.Bool.{cases_eq}
-use Rattle.std.proofs.lemmas.Option.{none-some, same_Some, slice_get_within}
+use Rattle.std.proofs.lemmas.Option.{none-some, same_Some}
 use Rattle.ir_core.specs.declared.module.Module.{Module}
 use Rattle.ir_core.specs.declared.module.Function.{Function}
-use Rattle.shapes.specs.CallPaths.{IsKernelAt, IsOnMainSideOf}
-use Rattle.call_paths.specs.Known.{AreCalls}
+use Rattle.shapes.specs.CallPaths.{IsOnMainSideOf}
 use Rattle.call_paths.specs.Runs.{Reaches, ReachesRegion, Runs}
-use Rattle.spmd_rules.specs.Rules.{IsShared, ReachesNone}
+use Rattle.spmd_rules.specs.Rules.{ReachesNone}
 use Rattle.spmd_judge.specs.declared.functions.FunctionRule.{FunctionRule}
 use Rattle.spmd_judge.specs.Lines.{IsLeastLine}
 use Rattle.spmd_judge.specs.Judging.{BreaksFunction, FunctionBreaks}

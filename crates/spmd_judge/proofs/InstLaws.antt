@@ -1,5 +1,5 @@
 -- What one instruction breaks.
-use Rattle.std.proofs.Common.{◌≡◌, ◌↔◌, ◌⊎◌, ℕ, ◌+◌, ◌<◌, List, length, Bool, true, Option, Some, None, slice_get, inl, inr, refl, sym, ap, subst, ◌∙◌, arith}
+use Rattle.std.proofs.Common.{◌≡◌, ◌⊎◌, ℕ, ◌+◌, ◌<◌, List, length, true, Option, Some, None, slice_get, inl, inr, refl, sym, ap, subst, ◌∙◌, arith}
 use Rattle.std.specs.Option.{is_some}
 use Rattle.std.proofs.lemmas.Bool.{cases_eq}
 use Rattle.std.proofs.lemmas.Option.{none-some, same_Some, slice_get_within}
@@ -8,21 +8,20 @@ use Rattle.ir_core.specs.declared.instructions.Value.{Value}
 use Rattle.ir_core.specs.declared.instructions.Typed.{Typed}
 use Rattle.ir_core.specs.declared.instructions.Order.{Order}
 use Rattle.ir_core.specs.declared.instructions.TailWord.{TailWord}
-use Rattle.ir_core.specs.declared.instructions.Kind.{Kind}
 use Rattle.ir_core.specs.declared.instructions.Kind.TheVariants.{Store, Call}
 use Rattle.ir_core.specs.declared.instructions.Inst.{Inst}
 use Rattle.ir_core.specs.declared.module.Block.{Block}
 use Rattle.ir_core.specs.declared.module.Module.{Module}
 use Rattle.ir_core.specs.declared.module.Function.{Function}
 use Rattle.ir_core.specs.FirstForm.{is_ptr}
-use Rattle.ir_core.specs.Places.{Name, Place, block_in, inst_in, inst_at}
+use Rattle.ir_core.specs.Places.{Place, block_in, inst_in, inst_at}
 use Rattle.effect_facts.specs.Marks.{accessed, called_place}
 use Rattle.effect_facts.proofs.EffectLaws.{accesses_is, is_accessed}
 use Rattle.effect_facts.proofs.CallLaws.{stands_at, called_by, place_called}
 use Rattle.register_hops.specs.Hops.{defined_place}
 use Rattle.spmd_rules.specs.Rules.{StoresStack, AccessesStack, PassesStack, ReturnsStack, CallsWithStack}
 use Rattle.value_facts.specs.Effects.{NeedsGuard}
-use Rattle.value_facts.specs.Pointers.{spot, register, CallsFunction, MayBeStack}
+use Rattle.value_facts.specs.Pointers.{spot, CallsFunction, MayBeStack}
 use Rattle.spmd_judge.specs.declared.insts.InstRule.{InstRule}
 use Rattle.spmd_judge.specs.Lines.{IsLeastLine}
 use Rattle.spmd_judge.specs.Judging.{BreaksInst, BreaksAt}

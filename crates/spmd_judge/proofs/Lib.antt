@@ -2,3 +2,5 @@ mod LineLaws
 mod InstLaws
 mod FunctionLaws
 mod WalkLaws
+mod ReasonLaws
+mod RuleLaws

@@ -4,9 +4,11 @@
 
 mod functions;
 mod insts;
+mod judging;
 mod lines;
 mod walks;
 
 pub use insts::InstRule;
+pub use judging::{Reason, Verdict, judge};
 pub use functions::{FunctionRule, first_function, line_without_region};
 pub use walks::first_inst;
