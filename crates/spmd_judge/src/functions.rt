@@ -66,13 +66,7 @@ fn breaks_function(m: &Module, calls: &Calls, rule: FunctionRule, kernel: usize,
 }
 
 /// The line of the function at a place, where it stands on the kernel's main side, reaches a region and breaks the rule.
-fn line_of(
-    m: &Module,
-    calls: &Calls,
-    rule: FunctionRule,
-    kernel: usize,
-    at: usize,
-) -> Option<u32>
+fn line_of(m: &Module, calls: &Calls, rule: FunctionRule, kernel: usize, at: usize) -> Option<u32>
     requires { AreCalls m.now calls.now }
     ensures { IsLeastLine (FunctionBreaks m.now rule kernel at) result }
 {
@@ -92,12 +86,7 @@ fn line_of(
 }
 
 /// The first line of a function on the kernel's main side that reaches a region and breaks the rule.
-pub fn first_function(
-    m: &Module,
-    calls: &Calls,
-    rule: FunctionRule,
-    kernel: usize,
-) -> Option<u32>
+pub fn first_function(m: &Module, calls: &Calls, rule: FunctionRule, kernel: usize) -> Option<u32>
     requires { AreCalls m.now calls.now }
     ensures { IsLeastLine (AtFunction m.now kernel (BreaksFunction rule m.now kernel)) result }
 {

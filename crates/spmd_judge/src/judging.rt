@@ -30,13 +30,7 @@ pub enum Verdict {
 }
 
 /// The first line at which the rule of a number is broken.
-fn first_line(
-    m: &Indexed,
-    calls: &Calls,
-    facts: &Facts,
-    kernel: usize,
-    rule: u8,
-) -> Option<u32>
+fn first_line(m: &Indexed, calls: &Calls, facts: &Facts, kernel: usize, rule: u8) -> Option<u32>
     requires calls { AreCalls m.now calls.now }
     requires facts { facts.now ≡ m.now }
     ensures { IsLeastLine (Breaks m.now kernel rule) result }

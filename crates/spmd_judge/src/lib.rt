@@ -8,7 +8,7 @@ mod judging;
 mod lines;
 mod walks;
 
+pub use functions::{FunctionRule, first_function, line_without_region};
 pub use insts::InstRule;
 pub use judging::{Reason, Verdict, judge};
-pub use functions::{FunctionRule, first_function, line_without_region};
 pub use walks::first_inst;

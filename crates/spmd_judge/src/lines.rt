@@ -14,13 +14,7 @@ pub(crate) fn lesser(a: Option<u32>, b: Option<u32>) -> Option<u32>
     match (a, b) {
         (None, b) => b,
         (Some(x), None) => Some(x),
-        (Some(x), Some(y)) => {
-            if x <= y {
-                Some(x)
-            } else {
-                Some(y)
-            }
-        }
+        (Some(x), Some(y)) => { if x <= y { Some(x) } else { Some(y) } }
     }
 }
 

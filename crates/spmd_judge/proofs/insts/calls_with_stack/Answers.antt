@@ -26,8 +26,7 @@ returns-then-needs_guard c =
         subst (λ (n : Module). NeedsGuard n p) c.requires.facts (w.needs_guard.ensures.0 (sym w.value-is ∙ c.if-needs_guard.true)),
       )
       | else-is_some w ↦ (let a = w.if-is_some.false in let b = w.value-is in let t = c.if-needs_guard.true in let f : ⊥ = cc in absurd f)
-    ] in
-    (
+    ] in (
       λ e. calls m p i k.tail k.ret k.callee k.args k.is c.requires.there found.0.0 found.0.1 found.1 (moves.0 e),
       λ h. moves.1 (calls_passing m p i k.tail k.ret k.callee k.args k.is h),
     )
@@ -40,18 +39,18 @@ returns-else-needs_guard c =
     let k = c.in-Call in
     let never : CallsWithStack m p i → ⊥ = λ h. elim c.if-is_some.branch [
       | then-is_some w ↦ (
-        let g = w.needs_guard.ensures.1 (subst (λ (n : Module). NeedsGuard n p) (sym c.requires.facts) h.2) in
-        let b = w.value-is in
-        let t = c.if-needs_guard.false in
-        let f : ⊥ = cc in
-        f
-      )
+          let g = w.needs_guard.ensures.1 (subst (λ (n : Module). NeedsGuard n p) (sym c.requires.facts) h.2) in
+          let b = w.value-is in
+          let t = c.if-needs_guard.false in
+          let f : ⊥ = cc in
+          f
+          )
       | else-is_some w ↦ (
-        let d : is_some (defined_place m k.callee) ≡ true = ap is_some (calls_defined m p i k.tail k.ret k.callee k.args k.is h) in
-        let s : c.is_some.result ≡ true = c.is_some.ensures ∙ ap is_some c.defined_place.ensures ∙ d in
-        let a = w.if-is_some.false in
-        let f : ⊥ = cc in
-        f
-      )
+          let d : is_some (defined_place m k.callee) ≡ true = ap is_some (calls_defined m p i k.tail k.ret k.callee k.args k.is h) in
+          let s : c.is_some.result ≡ true = c.is_some.ensures ∙ ap is_some c.defined_place.ensures ∙ d in
+          let a = w.if-is_some.false in
+          let f : ⊥ = cc in
+          f
+          )
     ] in
     (λ e. let t = c.if-needs_guard.false in let f : ⊥ = cc in absurd f, λ h. absurd (never h))
