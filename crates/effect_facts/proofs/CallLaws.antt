@@ -21,11 +21,11 @@ use Rattle.effect_facts.specs.Marks.{called_place, HasEffectAlone, CallsMarked, 
 -- ---- the function that is called
 
 module _ (m : Module) (at to : ℕ) (i : Inst) where
-  called_by : StandsIn m at i → (kind : Kind) → i.kind ≡ kind → called_place m kind ≡ Some to → (operands : List Typed) × CallsFunction m at to i operands
+  pub called_by : StandsIn m at i → (kind : Kind) → i.kind ≡ kind → called_place m kind ≡ Some to → (operands : List Typed) × CallsFunction m at to i operands
   called_by stands (Call tail_word ret callee operands) is e = (operands, calls_function m at to i stands tail_word ret operands callee is e)
   called_by stands _ is e = absurd (none-some to e)
 
-  place_called : (operands : List Typed) → CallsFunction m at to i operands → called_place m i.kind ≡ Some to
+  pub place_called : (operands : List Typed) → CallsFunction m at to i operands → called_place m i.kind ≡ Some to
   place_called operands c = ap (called_place m) c.is ∙ defined_there m at to i operands c
 
 calls_marked_is : (m : Module) (at : ℕ) (i : Inst) (alone : List Bool) → StandsIn m at i → IsRowOf (HasEffectAlone m) alone → CallsMarked m alone i ↔ CallsWithEffect m at i
@@ -45,7 +45,7 @@ module _ (m : Module) (p : Place) (i : Inst) where
   in_function None there e = absurd (none-some i e)
   in_function (Some f) there e = in_block f (slice_get f.blocks p.block) there refl e
 
-  stands_at : inst_at m p ≡ Some i → StandsIn m p.function i
+  pub stands_at : inst_at m p ≡ Some i → StandsIn m p.function i
   stands_at e = in_function (slice_get m.functions p.function) refl e
 
   module _ (effects alone guarded : List Bool) (are : AreMarks m effects alone guarded) (is : inst_at m p ≡ Some i) where

@@ -23,13 +23,13 @@ use Rattle.effect_facts.specs.Marks.{accessed, OneHasEffect, HasOwnEffect, Reach
 
 -- ---- accesses
 
-accesses_is : (kind : Kind) (p : Typed) → Accesses kind p → accessed kind ≡ Some p
+pub accesses_is : (kind : Kind) (p : Typed) → Accesses kind p → accessed kind ≡ Some p
 accesses_is (Store v a order align) p e = ap Some e
 accesses_is (Load ty a (Some order) align) p e = ap Some e
 accesses_is (Rmw op a v order align) p e = ap Some e
 accesses_is _ p e = absurd e
 
-is_accessed : (kind : Kind) (p : Typed) → accessed kind ≡ Some p → Accesses kind p
+pub is_accessed : (kind : Kind) (p : Typed) → accessed kind ≡ Some p → Accesses kind p
 is_accessed (Store v a order align) p e = same_Some a p e
 is_accessed (Load ty a (Some order) align) p e = same_Some a p e
 is_accessed (Rmw op a v order align) p e = same_Some a p e

@@ -1,2 +1,2 @@
-mod EffectLaws
-mod CallLaws
+pub mod EffectLaws
+pub mod CallLaws

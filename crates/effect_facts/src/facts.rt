@@ -1,7 +1,7 @@
 //! Which functions have an effect that other threads can see, and which instructions need a guard.
 ghost use Rattle.std.specs.Prelude.{◌≡◌, ◌↔◌, ◌⊎◌, true, IfOk};
 ghost use Rattle.call_paths.specs.Known.{AreCalls};
-ghost use Rattle.value_facts.specs.Pointers.{spot, MayBeStack, MayBeOther};
+ghost use Rattle.value_facts.specs.Pointers.{register, spot, MayBeStack, MayBeOther};
 ghost use Rattle.value_facts.specs.Effects.{HasEffect, SharedEffect, NeedsGuard};
 ghost use Rattle.effect_facts.specs.Marks.{AreMarks, CallsMarked};
 
@@ -10,7 +10,7 @@ use crate::marks::{calls_marked, is_marked};
 use crate::rows::{Rows, rows_of};
 use call_paths::Calls;
 use checked_modules::Checked;
-use ir_core::{Inst, OutOfMemory, Value};
+use ir_core::{Inst, Name, OutOfMemory, Value};
 use ir_tables::Indexed;
 use pointer_facts::Pointers;
 use std::alloc::Global;
@@ -70,6 +70,13 @@ impl<'m> Facts<'m> {
         ensures { (result ≡ true) ↔ MayBeStack self.now (spot function value.now) }
     {
         self.pointers.may_be_stack(function, value)
+    }
+
+    /// Whether a register of the function at a place may point into a stack.
+    pub fn register_may_be_stack(&self, function: usize, name: &Name) -> bool
+        ensures { (result ≡ true) ↔ MayBeStack self.now (register function name.now) }
+    {
+        self.pointers.register_may_be_stack(function, name)
     }
 
     /// Whether a value of the function at a place may point elsewhere than into a stack.

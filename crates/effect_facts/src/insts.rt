@@ -12,7 +12,7 @@ use register_hops::defined_place;
 use shape_facts::is_call_of;
 
 /// The pointer of a store, or of an atomic access; none of another instruction.
-fn accessed(kind: &Kind) -> Option<&Typed>
+pub fn accessed(kind: &Kind) -> Option<&Typed>
     ensures { MatchOption result (pointer_of kind.now ≡ None) (λ p. pointer_of kind.now ≡ Some p.now) }
 {
     match kind {
@@ -83,7 +83,7 @@ pub(crate) fn called_place(m: &Indexed, inst: &Inst) -> Option<usize>
 }
 
 /// The instruction at a place: of its function, its block and itself, each from 0.
-pub(crate) fn inst_at(m: &Module, function: usize, block: usize, index: usize) -> Option<&Inst>
+pub fn inst_at(m: &Module, function: usize, block: usize, index: usize) -> Option<&Inst>
     ensures { option_copied result ≡ inst_of m.now (record { function = function; block = block; index = index }) }
 {
     let f = m.functions.get(function)?;

@@ -8,3 +8,4 @@ mod marks;
 mod rows;
 
 pub use facts::Facts;
+pub use insts::{accessed, inst_at};

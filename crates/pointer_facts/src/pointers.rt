@@ -4,7 +4,7 @@ ghost use Rattle.name_uses.specs.Tables.{AreUses};
 ghost use Rattle.register_hops.specs.Hops.{all_hops};
 ghost use Rattle.register_hops.specs.Roots.{all_roots};
 ghost use Rattle.call_paths.specs.Known.{AreCalls};
-ghost use Rattle.value_facts.specs.Pointers.{spot, MayBeStack, MayBeOther};
+ghost use Rattle.value_facts.specs.Pointers.{register, spot, MayBeStack, MayBeOther};
 ghost use Rattle.pointer_facts.specs.Exact.{IsExact, AreExact, AreRoots, IsMarkedAt, roots_elsewhere};
 ghost use Rattle.pointer_facts.specs.SideHops.{IsSideHop, AddsHops};
 
@@ -159,6 +159,13 @@ impl<'m> Pointers<'m> {
             Value::Local(name) => is_marked(&self.numbering, &self.stack, function, name),
             _ => false,
         }
+    }
+
+    /// Whether a register of the function at a place may point into a stack.
+    pub fn register_may_be_stack(&self, function: usize, name: &Name) -> bool
+        ensures { (result ≡ true) ↔ MayBeStack self.now (register function name.now) }
+    {
+        is_marked(&self.numbering, &self.stack, function, name)
     }
 
     /// Whether a value of the function at a place may point elsewhere than into a stack.

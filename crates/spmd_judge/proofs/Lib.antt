@@ -1,0 +1,6 @@
+mod LineLaws
+mod InstLaws
+mod FunctionLaws
+mod WalkLaws
+mod ReasonLaws
+mod RuleLaws
