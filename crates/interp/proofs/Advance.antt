@@ -20,6 +20,7 @@ use Rattle.team_model.specs.declared.Trapping.{Trapping}
 use Rattle.team_model.specs.Team.{TeamShared, Team, by_next, by_thread, by_stand, unless_trapped, TeamStep}
 use Rattle.thread_state.specs.declared.state.ThreadState.{ThreadState as ThreadData}
 use Rattle.thread_state.specs.Seen.{thread_seen, IsThread, IsSeen}
+use Rattle.captures.specs.Published.{IsArea}
 use Rattle.interp_local.specs.declared.steps.Own.TheVariants.{Went as WentOn, Event, Done as HasEnded}
 use Rattle.interp_local.specs.declared.steps.Own.{Own}
 use Rattle.interp_local.specs.Steps.{IsOwn, IsNext}
@@ -28,7 +29,7 @@ use Rattle.interp.specs.declared.shared.Answer.{Answer}
 use Rattle.interp.specs.declared.shared.Answer.TheVariants.{Went, Wait, Trapped as TrapAnswer}
 use Rattle.interp.specs.declared.team.Team.{Team as TeamData}
 use Rattle.interp.specs.Events.{shared_seen, answer_of, IsPending, HasHappened}
-use Rattle.interp.specs.Teams.{team_seen, runs, goes, is_running, IsMoved, Advances, HasAdvanced, AreThreads, HasStepped}
+use Rattle.interp.specs.Teams.{team_seen, runs, goes, is_running, IsMoved, Advances, HasAdvanced, AreThreads, IsTeam, HasStepped}
 use Rattle.interp.proofs.Happens.{set_same}
 
 -- ---- what a thread has done by itself
@@ -112,10 +113,10 @@ goes_or_waits a (inl e) x h = let f : Went ≡ TrapAnswer x = sym e ∙ h in let
 goes_or_waits a (inr e) x h = let f : Wait ≡ TrapAnswer x = sym e ∙ h in let g : ⊥ = cc in g
 
 pub event_goes : (m : Module) (n : ℕ) (sh sh' : SharedData) (s s' : ThreadData) (a : Answer) → IsPending (Next m (thread_seen m s)) → ((x : Trap) → a ≡ TrapAnswer x → ⊥) → HasHappened m n 0 sh sh' s s' a → Advances m n sh sh' s s' EventMove
-event_goes m n sh sh' s s' a p other h = record { thread = h.thread; step = h.step; moved_is = moved_event (Next m (thread_seen m s)) sh'.trapped p (no_trap_yet a sh'.trapped (slice_get sh'.stands n) h.answer_is other) }
+event_goes m n sh sh' s s' a p other h = record { thread = h.thread; area = h.area; step = h.step; moved_is = moved_event (Next m (thread_seen m s)) sh'.trapped p (no_trap_yet a sh'.trapped (slice_get sh'.stands n) h.answer_is other) }
 
 pub event_traps : (m : Module) (n : ℕ) (sh sh' : SharedData) (s s' : ThreadData) (x : Trap) → IsPending (Next m (thread_seen m s)) → HasHappened m n 0 sh sh' s s' (TrapAnswer x) → Advances m n sh sh' s s' TrapMove
-event_traps m n sh sh' s s' x p h = record { thread = h.thread; step = h.step; moved_is = moved_trap (Next m (thread_seen m s)) sh'.trapped p (is_trap x sh'.trapped (slice_get sh'.stands n) h.answer_is) }
+event_traps m n sh sh' s s' x p h = record { thread = h.thread; area = h.area; step = h.step; moved_is = moved_trap (Next m (thread_seen m s)) sh'.trapped p (is_trap x sh'.trapped (slice_get sh'.stands n) h.answer_is) }
 
 -- ---- own steps and traps
 
@@ -131,6 +132,7 @@ local_goes m n sh s s' running h =
     let none = not_trapped sh n running in
     record {
       thread = h.0;
+      area = λ a. a;
       step = λ team is there. step_by m n (shared_seen sh) (thread_seen m s) (Local (thread_seen m s')) h.1 none (stands_running sh n running) team is there ∙ (λ i. Some (record { shared = is i; threads = slice_set team.threads n (thread_seen m s') }));
       moved_is = subst (λ nx. IsMoved nx sh.trapped LocalMove) (sym h.1) (subst (λ o. IsMoved (Local (thread_seen m s')) o LocalMove) (sym none) tt);
     }
@@ -139,6 +141,7 @@ pub trap_goes : (m : Module) (n line : ℕ) (sh : SharedData) (s s' : ThreadData
     Advances m n sh (record sh { trapped = Some (record { thread = n; line = line; trap = x }) }) s s' TrapMove
 trap_goes m n line sh s s' x running next same line_is = record {
   thread = same.0;
+  area = λ a. a;
   step = λ team is there.
       step_by m n (shared_seen sh) (thread_seen m s) (Trapped x) next (not_trapped sh n running) (stands_running sh n running) team is there
       ∙ (λ i. Some (record {
@@ -163,13 +166,13 @@ all_set m (x ∷ xs) zero s are is (suc i) v e = are (suc i) v e
 all_set m (x ∷ xs) (suc n) s are is zero v e = are 0 v e
 all_set m (x ∷ xs) (suc n) s are is (suc i) v e = all_set m xs n s (λ k. are (suc k)) is i v e
 
-pub stepped : (m : Module) (n : ℕ) (old new : TeamData) (s s' : ThreadData) (sh' : SharedData) (result : Result Moved (Or NotReady)) → new.shared ≡ sh' → new.threads.items ≡ slice_set old.threads.items n s' → AreThreads m old.threads.items → slice_get old.threads.items n ≡ Some s → is_running old.shared n ≡ true →
+pub stepped : (m : Module) (n : ℕ) (old new : TeamData) (s s' : ThreadData) (sh' : SharedData) (result : Result Moved (Or NotReady)) → new.shared ≡ sh' → new.threads.items ≡ slice_set old.threads.items n s' → IsTeam m old → slice_get old.threads.items n ≡ Some s → is_running old.shared n ≡ true →
     HasAdvanced m n old.shared sh' s s' result → HasStepped m n old new result
 stepped m n old new s s' sh' (Ok moved) shared items are there running h =
     let found : slice_get (map (thread_seen m) old.threads.items) n ≡ Some (thread_seen m s) = slice_get-map (thread_seen m) old.threads.items n ∙ ap (option_map (thread_seen m)) there in
     let threads : slice_set (map (thread_seen m) old.threads.items) n (thread_seen m s') ≡ map (thread_seen m) new.threads.items = sym (map-set (thread_seen m) old.threads.items n s') ∙ ap (map (thread_seen m)) (sym items) in (
       h.step (team_seen m old) refl found ∙ (λ i. Some (record { shared = shared_seen (sym shared i); threads = threads i })),
-      subst (AreThreads m) (sym items) (all_set m old.threads.items n s' are h.thread),
+      (subst (AreThreads m) (sym items) (all_set m old.threads.items n s' are.0 h.thread), subst (λ (z : SharedData). IsArea z.memory) (sym shared) (h.area are.1)),
       λ v at. subst (λ (z : SharedData). IsMoved (Next m (thread_seen m v)) z.trapped moved) (sym shared) (subst (λ u. IsMoved (Next m (thread_seen m u)) sh'.trapped moved) (some_injective (sym there ∙ at)) h.moved_is),
     )
 stepped m n old new s s' sh' (Err (Refused r)) shared items are there running h =
@@ -184,4 +187,4 @@ stepped m n old new s s' sh' (Err WantOfMemory) shared items are there running h
     ∙ map-set (thread_seen m) old.threads.items n s'
     ∙ ap (slice_set (map (thread_seen m) old.threads.items) n) h.1.1
     ∙ set_same (map (thread_seen m) old.threads.items) n (thread_seen m s) found in
-    (shared ∙ h.0, (λ i. record { shared = shared_seen ((shared ∙ h.0) i); threads = threads i }), subst (AreThreads m) (sym items) (all_set m old.threads.items n s' are h.1.0))
+    (shared ∙ h.0, (λ i. record { shared = shared_seen ((shared ∙ h.0) i); threads = threads i }), (subst (AreThreads m) (sym items) (all_set m old.threads.items n s' are.0 h.1.0), subst (λ (z : SharedData). IsArea z.memory) (sym (shared ∙ h.0)) are.1))

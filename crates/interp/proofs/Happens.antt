@@ -15,13 +15,15 @@ use Rattle.mem_model.specs.declared.memory.Byte.{Byte}
 use Rattle.mem_model.specs.declared.memory.Word.TheVariants.{Int, Ptr as Address}
 use Rattle.mem_model.specs.declared.step.Trap.TheVariants.{NoBlock, Released, Constant, NotNumber}
 use Rattle.mem_model.specs.Words.{cell_size, word_bytes, word_in}
-use Rattle.mem_model.specs.Memory.{Memory, Header, Given, Shares, inside, unless, then_unless, access, bytes_at, put_bytes, load_from, store_to, Load, Store}
+use Rattle.mem_model.specs.Memory.{Memory, Header, Shares, inside, unless, then_unless, access, bytes_at, put_bytes, load_from, store_to, Load, Store}
 use Rattle.mem_model.specs.declared.memory.Cell.TheVariants.{Int as IntCell}
 use Rattle.mem_model.specs.Values.{updated}
 use Rattle.mem_model.specs.Update.{Updated, update_number, update_at, Update}
 use Rattle.mem_model.specs.Answers.{IsDone, only_trap}
 use Rattle.mem_model.specs.Thread.{Frame, ThreadState, where_is, given_of, find_in, put_in, load_own, store_own}
-use Rattle.mem_model.specs.Next.{NextStep, Local, Pending, Done, Trapped, with_found, with_number, with_frames, code_on, loads, stores, updates, Event, Does, Deinit, Forks, Arrives, AsksForWork, Leaves, Loads, Stores, Updates, Prints, Next, line_at}
+use Rattle.mem_model.specs.declared.phase.Phase.{Phase}
+use Rattle.mem_model.specs.Next.{NextStep, Local, Pending, Done, Trapped, with_found, with_number, with_frames, code_on, loads, stores, updates, Event, Does, Deinit, Forks, Arrives, AsksForWork, Leaves, Loads, Stores, Updates, Prints, Next, line_at, Action, Makes as MakesBlock, Releases}
+use Rattle.mem_model.specs.Entries.{releases}
 use Rattle.mem_model.specs.Work.{given_work}
 use Rattle.mem_model.specs.declared.step.Barrier.{Barrier}
 use Rattle.mem_model.specs.declared.step.Barrier.TheVariants.{Team as TeamBarrier}
@@ -31,21 +33,23 @@ use Rattle.team_model.specs.declared.Stand.TheVariants.{Runs, Ended as Gone}
 use Rattle.team_model.specs.Team.{TeamShared, Team, opened, takes_work, happens, acts, by_next, by_thread, by_stand, unless_trapped, TeamStep}
 use Rattle.thread_state.specs.declared.state.ThreadState.{ThreadState as ThreadData}
 use Rattle.thread_state.specs.Seen.{thread_seen, IsThread}
+use Rattle.interp_local.specs.Steps.{IsAnswered}
 use Rattle.interp.specs.declared.shared.TeamShared.{TeamShared as SharedData}
 use Rattle.interp.specs.Events.{shared_seen, by_effect, by_work, made, IsPending, IsUpdated, Makes, IsMadeOrSame}
 
--- ---- stores that trap
+-- ---- actions that trap
 
 done_err : (r : Result Memory Trap) (old new : Memory) (e : Trap) → IsDone {U = Unit {0}} r old new (Err e) → (r ≡ Err e) × (new ≡ old)
 done_err (Ok m) old new e h = let q = h.0 in let f : ⊥ = cc in absurd f
 done_err (Err x) old new e h = (ap Err (let q = h.0 in let same : x ≡ e = cc in same), h.1)
 
-pub not_stored : (m : Module) (n line : ℕ) (sh new : SharedData) (s : ThreadData) (at : Ptr) (cell : Cell) (given : Given) (trap : Trap) (memory : Memory) → IsThread m s → IsDone {U = Unit {0}} (Store sh.memory at cell given) sh.memory memory (Err trap) →
-    new ≡ record sh { memory = memory; trapped = Some (record { thread = n; line = line; trap = trap }) } → line ≡ line_at m (thread_seen m s) → Makes m n sh new s s (Does (Stores at cell given))
-not_stored m n line sh new s at cell given trap memory is done new_is line_is =
-    let p = done_err (Store sh.memory at cell given) sh.memory memory trap done in
-    let fails : made m (shared_seen sh) n (thread_seen m s) (Does (Stores at cell given)) ≡ (record (shared_seen sh) { trapped = Some (record { thread = n; line = line_at m (thread_seen m s); trap = trap }) }, thread_seen m s) =
-    ap (λ r. by_effect m (shared_seen sh) n (thread_seen m s) (stored (shared_seen sh).common r)) p.0 in
+-- a store or a release has trapped
+pub not_stored : (m : Module) (n line : ℕ) (sh new : SharedData) (s : ThreadData) (action : Action) (r : Result Memory Trap) (trap : Trap) (memory : Memory) → IsThread m s → Do action (shared_seen sh).common ≡ stored (shared_seen sh).common r → IsDone {U = Unit {0}} r sh.memory memory (Err trap) →
+    new ≡ record sh { memory = memory; trapped = Some (record { thread = n; line = line; trap = trap }) } → line ≡ line_at m (thread_seen m s) → Makes m n sh new s s (Does action)
+not_stored m n line sh new s action r trap memory is does done new_is line_is =
+    let p = done_err r sh.memory memory trap done in
+    let fails : made m (shared_seen sh) n (thread_seen m s) (Does action) ≡ (record (shared_seen sh) { trapped = Some (record { thread = n; line = line_at m (thread_seen m s); trap = trap }) }, thread_seen m s) =
+    ap (by_effect m (shared_seen sh) n (thread_seen m s)) (does ∙ ap (stored (shared_seen sh).common) p.0) in
     record {
       thread = is;
       shared =
@@ -55,6 +59,37 @@ not_stored m n line sh new s at cell given trap memory is done new_is line_is =
       state = sym (ap (λ q. q.1) fails);
       history = ap (λ (z : SharedData). z.history) new_is;
     }
+
+-- ---- questions for published work
+
+work_by : (U : Type 0) (m : Module) (n line : ℕ) (sh new : SharedData) (s s' : ThreadData) (r : Result ThreadState Trap) (trap : Trap) → given_work m (thread_seen m s) sh.slot ≡ r → IsThread m s → IsAnswered {U = U} m s s' r (Err trap) →
+    new ≡ record sh { trapped = Some (record { thread = n; line = line; trap = trap }) } → line ≡ line_at m (thread_seen m s) → Makes m n sh new s s' AsksForWork
+work_by U m n line sh new s s' (Ok u) trap e is h new_is line_is = absurd h
+work_by U m n line sh new s s' (Err x) trap e is h new_is line_is =
+    let does = e ∙ ap Err h.0 in
+    let fails : made m (shared_seen sh) n (thread_seen m s) AsksForWork ≡ (record (shared_seen sh) { trapped = Some (record { thread = n; line = line_at m (thread_seen m s); trap = trap }) }, thread_seen m s) =
+    ap (by_work m (shared_seen sh) n (thread_seen m s)) does in
+    record {
+      thread = subst (IsThread m) (sym h.1) is;
+      shared = ap shared_seen new_is ∙ (λ i. record (shared_seen sh) { trapped = Some (record { thread = n; line = line_is i; trap = trap }) }) ∙ sym (ap (λ q. q.0) fails);
+      state = ap (thread_seen m) h.1 ∙ sym (ap (λ q. q.1) fails);
+      history = ap (λ (z : SharedData). z.history) new_is;
+    }
+
+-- the answer to a question has trapped
+pub no_work : (U : Type 0) (m : Module) (n line : ℕ) (sh new : SharedData) (s s' : ThreadData) (trap : Trap) → IsThread m s → IsAnswered {U = U} m s s' (given_work m (thread_seen m s) sh.slot) (Err trap) →
+    new ≡ record sh { trapped = Some (record { thread = n; line = line; trap = trap }) } → line ≡ line_at m (thread_seen m s) → Makes m n sh new s s' AsksForWork
+no_work U m n line sh new s s' trap is h new_is line_is = work_by U m n line sh new s s' (given_work m (thread_seen m s) sh.slot) trap refl is h new_is line_is
+
+takes_by : {U : Type 0} (m : Module) (n : ℕ) (sh : SharedData) (s s' : ThreadData) (r : Result ThreadState Trap) (done : U) → given_work m (thread_seen m s) sh.slot ≡ r → IsAnswered m s s' r (Ok done) → Makes m n sh sh s s' AsksForWork
+takes_by m n sh s s' (Err x) done e h = absurd h
+takes_by m n sh s s' (Ok u) done e h =
+    let goes = ap (by_work m (shared_seen sh) n (thread_seen m s)) e in
+    record { thread = h.0; shared = sym (ap (λ q. q.0) goes); state = h.1 ∙ sym (ap (λ q. q.1) goes); history = refl }
+
+-- the question is answered
+pub has_work : {U : Type 0} (m : Module) (n : ℕ) (sh : SharedData) (s s' : ThreadData) (done : U) → IsAnswered m s s' (given_work m (thread_seen m s) sh.slot) (Ok done) → Makes m n sh sh s s' AsksForWork
+has_work m n sh s s' done h = takes_by m n sh s s' (given_work m (thread_seen m s) sh.slot) done refl h
 
 -- ---- atomic changes
 
@@ -167,11 +202,26 @@ update_event t f rest x width op n (At (Code k) o) e h = pending_same _ e h
 pub deinit_event : (e : Event) → Pending Deinit ≡ Pending e → Deinit ≡ e
 deinit_event e h = pending_same Deinit e h
 
-pub arrives_event : (kind : Barrier) (e : Event) → Pending (Arrives kind None) ≡ Pending e → Arrives kind None ≡ e
-arrives_event kind e h = pending_same (Arrives kind None) e h
+pub arrives_event : (kind : Barrier) (phase : Option Phase) (e : Event) → Pending (Arrives kind phase) ≡ Pending e → Arrives kind phase ≡ e
+arrives_event kind phase e h = pending_same (Arrives kind phase) e h
+
+pub asks_event : (e : Event) → Pending AsksForWork ≡ Pending e → AsksForWork ≡ e
+asks_event e h = pending_same AsksForWork e h
 
 pub prints_event : (n : ℕ) (e : Event) → Pending (Does (Prints n)) ≡ Pending e → Does (Prints n) ≡ e
 prints_event n e h = pending_same (Does (Prints n)) e h
+
+pub makes_event : (size : ℕ) (e : Event) → Pending (Does (MakesBlock size)) ≡ Pending e → Does (MakesBlock size) ≡ e
+makes_event size e h = pending_same (Does (MakesBlock size)) e h
+
+pub release_event : (size : ℕ) (at : Ptr) (e : Event) → releases size (where_is at) ≡ Pending e → Does (Releases at size) ≡ e
+release_event size (Number n) e h = pending_same _ e h
+release_event size (At (Arg n) o) e h = pending_same _ e h
+release_event size (At (Global n) o) e h = pending_same _ e h
+release_event size (At (Heap n) o) e h = pending_same _ e h
+release_event size (At (Stack k n) o) e h = let f : ⊥ = cc in absurd f
+release_event size (At Captures o) e h = pending_same _ e h
+release_event size (At (Code n) o) e h = pending_same _ e h
 
 pub pending_of : (nx : NextStep) → IsPending nx → (e : Event) × (nx ≡ Pending e)
 pending_of (Local u) p = absurd p

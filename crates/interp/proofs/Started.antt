@@ -26,7 +26,7 @@ use Rattle.team_model.specs.declared.Stand.TheVariants.{Runs}
 use Rattle.team_model.specs.Team.{worker, main_thread, with_captures, threads_from, first_threads, runs_at_first, started}
 use Rattle.thread_state.specs.declared.state.StackBlock.{StackBlock}
 use Rattle.thread_state.specs.declared.state.ThreadState.{ThreadState as ThreadData}
-use Rattle.thread_state.specs.Seen.{registers_seen, back_seen, frames_seen, answers_seen, thread_seen, AreFrames, AreBlocks, IsThread, IsSeen}
+use Rattle.thread_state.specs.Seen.{registers_seen, back_seen, frames_seen, answers_seen, thread_seen, AreFrames, AreBlocks, HasSpmdKernel, IsThread, IsSeen}
 use Rattle.thread_state.specs.Stored.{entered}
 use Rattle.interp_local.specs.Calls.{put_words}
 use Rattle.interp_local.proofs.Entered.{put_length, function_registers, params_few}
@@ -119,11 +119,12 @@ nowhere : {A : Type 0} (xs : List A) (i : ℕ) (x : A) → xs ≡ [] → slice_g
 nowhere [] i x none e = let f : ⊥ = cc in f
 nowhere (y ∷ ys) i x none e = let f : ⊥ = cc in f
 
-pub idle_thread : (m : Module) (s : ThreadData) → s.frames.items ≡ [] → s.stack.items ≡ [] → IsThread m s
-idle_thread m s frames stack = (
+pub idle_thread : (m : Module) (s : ThreadData) → s.frames.items ≡ [] → s.stack.items ≡ [] → (s.enters ≡ true → HasSpmdKernel m) → IsThread m s
+idle_thread m s frames stack spmd = (
   subst (λ fs. AreFrames m (length s.stack.items) (reverse fs)) (sym frames) (ap (λ (bs : List StackBlock). length bs) stack),
   subst (AreBlocks 0) (sym stack) tt,
   λ i b e. absurd (nowhere s.stack.items i b stack e),
+  spmd,
 )
 
 module _ (m : Module) (l : Launch) (s : ThreadData) (counter : s.counter ≡ 0) (frames : s.frames.items ≡ []) where
@@ -133,9 +134,9 @@ module _ (m : Module) (l : Launch) (s : ThreadData) (counter : s.counter ≡ 0) 
   uncalled : (thread_seen m s).frames ≡ []
   uncalled = ap (λ fs. frames_seen m s.own s.stack.items (length s.stack.items) (reverse fs)) frames
 
-  pub idle_seen : s.stack.items ≡ [] → function_place m l.kernel ≡ None → IsSeen m s (first_thread m l as_role (answers_seen s.answers))
-  idle_seen stack unnamed = (
-    idle_thread m s frames stack,
+  pub idle_seen : s.stack.items ≡ [] → (s.enters ≡ true → HasSpmdKernel m) → function_place m l.kernel ≡ None → IsSeen m s (first_thread m l as_role (answers_seen s.answers))
+  idle_seen stack spmd unnamed = (
+    idle_thread m s frames stack spmd,
     (λ i. record { own = s.own; size = s.size; enters = s.enters; counter = counter i; frames = uncalled i; answers = answers_seen s.answers })
         ∙ sym (ap (thread_at m l as_role (answers_seen s.answers)) unnamed),
   )

@@ -17,8 +17,9 @@ use Rattle.team_model.specs.declared.Trapping.{Trapping}
 use Rattle.team_model.specs.Team.{TeamShared, Team, published, opened, slot_after_deinit, TeamStep}
 use Rattle.thread_state.specs.declared.state.ThreadState.{ThreadState as ThreadData}
 use Rattle.thread_state.specs.Seen.{thread_seen, IsThread}
+use Rattle.captures.specs.Published.{IsArea}
 use Rattle.interp_local.specs.declared.actions.Action.{Action}
-use Rattle.interp_local.specs.declared.actions.Action.TheVariants.{Prints}
+use Rattle.interp_local.specs.declared.actions.Action.TheVariants.{Prints, Makes as MakesBlock}
 use Rattle.interp_local.specs.Steps.{Knows}
 use Rattle.interp.specs.declared.shared.TeamShared.{TeamShared as SharedData}
 use Rattle.interp.specs.declared.shared.Answer.{Answer}
@@ -81,14 +82,16 @@ abbrev pub IsMadeOrSame : {U E : Type 0} → Module → ℕ → SharedData → S
 IsMadeOrSame m n sh sh' s s' e (Ok u) = Makes m n sh sh' s s' e
 IsMadeOrSame m n sh sh' s s' e (Err x) = (sh' ≡ sh) × (s' ≡ s)
 
--- prints a number, which takes memory
-abbrev pub IsPrint : Action → Type 0
-IsPrint (Prints n) = Unit {0}
-IsPrint _ = ⊥
+-- takes memory: prints a number, or makes a heap block
+abbrev pub WantsMemory : Action → Type 0
+WantsMemory (Prints n) = Unit {0}
+WantsMemory (MakesBlock size) = Unit {0}
+WantsMemory _ = ⊥
 
 -- thread n of any team with this shared part and this state of the thread makes one step, by its event
 pub record HasHappened (m : Module) (n local_steps : ℕ) (sh sh' : SharedData) (s s' : ThreadData) (answer : Answer) : Type 0 where
   pub thread : IsThread m s'
+  pub area : IsArea sh.memory → IsArea sh'.memory
   pub step : (team : Team) → team.shared ≡ shared_seen sh → slice_get team.threads n ≡ Some (thread_seen m s) → TeamStep m team n ≡ Some (record { shared = shared_seen sh'; threads = slice_set team.threads n (thread_seen m s') })
   pub answer_is : answer ≡ answer_of sh'.trapped (slice_get sh'.stands n)
   pub history : sh'.history ≡ sh.history ++ record { thread = n; count = local_steps + 1 } ∷ []

@@ -13,6 +13,7 @@ use Rattle.team_model.specs.declared.Trapping.{Trapping}
 use Rattle.team_model.specs.Team.{Team, TeamStep}
 use Rattle.thread_state.specs.declared.state.ThreadState.{ThreadState as ThreadData}
 use Rattle.thread_state.specs.Seen.{thread_seen, IsThread, IsSeen}
+use Rattle.captures.specs.Published.{IsArea}
 use Rattle.interp.specs.declared.shared.TeamShared.{TeamShared as SharedData}
 use Rattle.interp.specs.declared.team.Team.{Team as TeamData}
 use Rattle.interp.specs.Events.{shared_seen}
@@ -43,6 +44,7 @@ IsMoved _ _ _ = ⊥
 -- thread n of any team with this shared part and this state of the thread makes one step
 pub record Advances (m : Module) (n : ℕ) (sh sh' : SharedData) (s s' : ThreadData) (moved : Moved) : Type 0 where
   pub thread : IsThread m s'
+  pub area : IsArea sh.memory → IsArea sh'.memory
   pub step : (team : Team) → team.shared ≡ shared_seen sh → slice_get team.threads n ≡ Some (thread_seen m s) → TeamStep m team n ≡ Some (record { shared = shared_seen sh'; threads = slice_set team.threads n (thread_seen m s') })
   pub moved_is : IsMoved (Next m (thread_seen m s)) sh'.trapped moved
 
@@ -55,6 +57,10 @@ HasAdvanced m n sh sh' s s' (Err WantOfMemory) = (sh' ≡ sh) × IsSeen m s' (th
 abbrev pub AreThreads : Module → List ThreadData → Type 0
 AreThreads m ss = (i : ℕ) (s : ThreadData) → slice_get ss i ≡ Some s → IsThread m s
 
+-- each thread's state stands for one, and the capture area is there
+abbrev pub IsTeam : Module → TeamData → Type 0
+IsTeam m t = AreThreads m t.threads.items × IsArea t.shared.memory
+
 -- what kind of step thread n has made
 abbrev pub MovesBy : Module → ℕ → TeamData → TeamData → Moved → Type 0
 MovesBy m n old new moved = (s : ThreadData) → slice_get old.threads.items n ≡ Some s → IsMoved (Next m (thread_seen m s)) new.shared.trapped moved
@@ -64,6 +70,6 @@ IsSame old new = (new.shared ≡ old.shared) × (new.threads.items ≡ old.threa
 
 -- the team has made a step of thread n; where that isn't ready all is as it was, and for want of memory it means what it did
 abbrev pub HasStepped : Module → ℕ → TeamData → TeamData → Result Moved (Or NotReady) → Type 0
-HasStepped m n old new (Ok moved) = (TeamStep m (team_seen m old) n ≡ Some (team_seen m new)) × AreThreads m new.threads.items × MovesBy m n old new moved
+HasStepped m n old new (Ok moved) = (TeamStep m (team_seen m old) n ≡ Some (team_seen m new)) × IsTeam m new × MovesBy m n old new moved
 HasStepped m n old new (Err (Refused r)) = (TeamStep m (team_seen m old) n ≡ None) × IsSame old new
-HasStepped m n old new (Err WantOfMemory) = (new.shared ≡ old.shared) × (team_seen m new ≡ team_seen m old) × AreThreads m new.threads.items
+HasStepped m n old new (Err WantOfMemory) = (new.shared ≡ old.shared) × (team_seen m new ≡ team_seen m old) × IsTeam m new

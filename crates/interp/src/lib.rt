@@ -6,9 +6,11 @@
 
 mod barriers;
 mod events;
+mod heaps;
 mod shared;
 mod start;
 mod team;
+mod work;
 
 pub use events::event;
 pub use shared::{Answer, TeamShared};

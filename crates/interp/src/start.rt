@@ -7,11 +7,11 @@ ghost use Rattle.ir_core.specs.Places.{function_place};
 ghost use Rattle.mem_model.specs.Launching as launching;
 ghost use Rattle.team_model.specs.declared.Stand.TheVariants.{Runs};
 ghost use Rattle.team_model.specs.Team as spec;
-ghost use Rattle.thread_state.specs.Seen.{answers_seen, IsSeen};
+ghost use Rattle.thread_state.specs.Seen.{answers_seen, IsSeen, HasSpmdKernel};
 ghost use Rattle.interp_local.specs.Operands.{AreFew};
 ghost use Rattle.interp_local.specs.Calls.{put_words};
 ghost use Rattle.interp.specs.Events.{shared_seen};
-ghost use Rattle.interp.specs.Teams.{team_seen, AreThreads};
+ghost use Rattle.interp.specs.Teams.{team_seen, IsTeam};
 ghost use Rattle.interp.specs.Starts as starts;
 
 use crate::shared::TeamShared;
@@ -220,6 +220,7 @@ fn first_thread(
     answers: Answers,
 ) -> Result<ThreadState, OutOfMemory>
     requires few { length l.now.args ≤ 2 ^ 32 }
+    requires spmd { enters ≡ true → HasSpmdKernel m.now }
     ensures { IfOk result (λ s. IsSeen m.now s (launching.first_thread m.now l.now (spec.role l.now enters own) (answers_seen answers))) }
 {
     let mut s = ThreadState {
@@ -262,6 +263,7 @@ fn numbered_thread(
     number: u32,
 ) -> Result<ThreadState, OutOfMemory>
     requires few { length l.now.args ≤ 2 ^ 32 }
+    requires spmd { spmd ≡ true → HasSpmdKernel m.now }
     ensures { IfOk result (λ s. IsSeen m.now s (starts.numbered_thread m.now l.now spmd number)) }
 {
     if spmd {
@@ -287,6 +289,7 @@ fn numbered_threads(
     spmd: bool,
 ) -> Result<Vec<ThreadState>, OutOfMemory>
     requires few { length l.now.args ≤ 2 ^ 32 }
+    requires spmd { spmd ≡ true → HasSpmdKernel m.now }
     ensures { IfOk result (λ ts. starts.AreSeen m.now ts.items (spec.threads_from (starts.numbered_thread m.now l.now spmd) 0 l.now.threads)) }
 {
     let mut threads = Vec::new(alloc);
@@ -319,7 +322,7 @@ impl Team {
     /// For want of memory, of which a module or a launch of more than 2^32 globals, functions or arguments counts as one case.
     pub fn start(alloc: Global, m: &Indexed, l: &Launch) -> Result<Team, OutOfMemory>
         ensures state { IfOk result (λ t. team_seen m.now t ≡ spec.team_start m.now l.now) }
-        ensures threads { IfOk result (λ t. AreThreads m.now t.threads.items) }
+        ensures team { IfOk result (λ t. IsTeam m.now t) }
         ensures history { IfOk result (λ t. t.shared.history ≡ []) }
         ensures few { IfOk result (λ t. AreFew m.now) }
         ensures args { IfOk result (λ t. length l.now.args ≤ 2 ^ 32) }

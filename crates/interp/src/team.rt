@@ -8,7 +8,8 @@ ghost use Rattle.thread_state.specs.Seen.{thread_seen, IsThread};
 ghost use Rattle.interp_local.specs.Operands.{AreFew};
 ghost use Rattle.interp_local.specs.Steps.{AreServed};
 ghost use Rattle.interp.specs.Events.{IsPending};
-ghost use Rattle.interp.specs.Teams.{team_seen, AreThreads, HasAdvanced, HasStepped, is_running};
+ghost use Rattle.captures.specs.Published.{IsArea};
+ghost use Rattle.interp.specs.Teams.{team_seen, IsTeam, HasAdvanced, HasStepped, is_running};
 
 use crate::events::event;
 use crate::shared::{Answer, TeamShared};
@@ -112,6 +113,7 @@ fn line_of(m: &Indexed, s: &ThreadState) -> u32
 
 /// Makes the pending event of a thread.
 fn happen(
+    alloc: Global,
     m: &Indexed,
     sh: &mut TeamShared,
     s: &mut ThreadState,
@@ -122,9 +124,10 @@ fn happen(
     requires served { AreServed m.now }
     requires pending { IsPending (Next m.now (thread_seen m.now s.old)) }
     requires running { is_running sh.old thread ≡ true }
+    requires area { IsArea sh.old.memory }
     ensures { HasAdvanced m.now thread sh.old sh.new s.old s.new result }
 {
-    match event(m, sh, s, thread, 0)? {
+    match event(alloc, m, sh, s, thread, 0)? {
         Answer::Went | Answer::Wait => Ok(Moved::Event),
         Answer::Trapped(_) => Ok(Moved::Trapped),
     }
@@ -142,11 +145,12 @@ fn advance(
     requires few { AreFew m.now }
     requires served { AreServed m.now }
     requires running { is_running sh.old thread ≡ true }
+    requires area { IsArea sh.old.memory }
     ensures { HasAdvanced m.now thread sh.old sh.new s.old s.new result }
 {
     match next(alloc, m, s) {
         Ok(Own::Went) => Ok(Moved::Local),
-        Ok(Own::Event) => happen(m, sh, s, thread),
+        Ok(Own::Event) => happen(alloc, m, sh, s, thread),
         Ok(Own::Done) => Err(Or::Refused(NotReady)),
         Err(Or::Memory) => Err(Or::Memory),
         Err(Or::Refused(trap)) => {
@@ -177,7 +181,7 @@ fn is_ready(sh: &TeamShared, thread: u32) -> bool
 /// `NotReady` exactly where there is no such thread, it has ended or waits, or the run has trapped. Then all is as it was; and
 /// so it is, in what it means, for want of memory.
 pub fn step(alloc: Global, m: &Indexed, t: &mut Team, thread: u32) -> Result<Moved, Or<NotReady>>
-    requires threads { AreThreads m.now t.old.threads.items }
+    requires team { IsTeam m.now t.old }
     requires few { AreFew m.now }
     requires served { AreServed m.now }
     ensures { HasStepped m.now thread t.old t.new result }

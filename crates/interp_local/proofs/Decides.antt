@@ -30,14 +30,15 @@ use Rattle.mem_model.specs.declared.step.Trap.TheVariants.{Unreachable, TooLarge
 use Rattle.mem_model.specs.Eval.{Eval, compared}
 use Rattle.mem_model.specs.Thread.{Frame, ThreadState, where_is}
 use Rattle.mem_model.specs.Values.{cell_of, width_of, value_word, is_word_of, of_type, operand, and_then, operand_words, converted, path_of}
-use Rattle.mem_model.specs.Entries.{is_worker, runs_loop, next_known, next_entry}
+use Rattle.mem_model.specs.Regions.{Fork, fork_of}
+use Rattle.mem_model.specs.Entries.{is_worker, runs_loop, forks, next_known, next_entry}
 use Rattle.mem_model.specs.declared.phase.LoopPoint.TheVariants.{Sleeps}
 use Rattle.mem_model.specs.declared.phase.Phase.TheVariants.{Loops}
 use Rattle.mem_model.specs.Next.{NextStep, Local, Pending, Arrives, Trapped, goes_on, goes_past, with_found, with_number, with_pointer, with_result, loads, stores, allocates, case_for, to_block, to_label, goes_in, entry_of, entry_or, Callee, CallsEntry, CallsFunction, CallsOther, with_body, defined_as, defined_at, callee_of, next_call, next_kind}
 use Rattle.interp_local.specs.declared.actions.Action.{Action}
 use Rattle.interp_local.specs.declared.actions.Action.TheVariants.{Loads, Stores, Allocates}
 use Rattle.interp_local.specs.Operands.{as_number, as_pointer, cell, or_unreachable}
-use Rattle.interp_local.specs.Actions.{gives, words_given, known_action, entry_action, call_action, jump, block_action, arguments, action_of, decided}
+use Rattle.interp_local.specs.Actions.{gives, words_given, known_action, fork_action, entry_action, call_action, jump, block_action, arguments, action_of, decided}
 use Rattle.interp_local.specs.Steps.{IsRun, IsServed}
 
 -- ---- a function with blocks that is called is the one at its place
@@ -171,23 +172,47 @@ module _ (m : Module) (t : ThreadState) (f : Frame) (rest : List Frame) (x : Opt
   prints_by (Address p ∷ b ∷ c ∷ more) = refl
   prints_by (Int n ∷ b ∷ c ∷ more) = refl
 
+  begins_by : (b : Bool) → D (Ok (if b then Action.StartsLoop else Action.Gives (Int t.answers.init))) ≡ (if b then Local (goes_in t f rest (Loops Sleeps)) else Local (goes_on t f rest x (Int t.answers.init)))
+  begins_by true = refl
+  begins_by false = refl
+
+  fork_by : (o : Option Fork) (words : List Word) → D (fork_action o words) ≡ with_result o (forks t f rest words)
+  fork_by None words = refl
+  fork_by (Some fork) words = refl
+
+  makes_by : (words : List Word) → D (known_action t.own t.answers AllocShared (words_given words)) ≡ next_known t f rest x AllocShared words
+  makes_by [] = refl
+  makes_by (Address p ∷ []) = refl
+  makes_by (Int n ∷ []) = refl
+  makes_by (Address p ∷ b ∷ []) = refl
+  makes_by (Int n ∷ b ∷ []) = refl
+  makes_by (Address p ∷ b ∷ c ∷ more) = refl
+  makes_by (Int n ∷ b ∷ c ∷ more) = refl
+
+  -- two operands, a pointer and a size, say what is released
+  releases_by : (words : List Word) → D (known_action t.own t.answers FreeShared (words_given words)) ≡ next_known t f rest x FreeShared words
+  releases_by [] = refl
+  releases_by (Int n ∷ []) = refl
+  releases_by (Address p ∷ []) = refl
+  releases_by (Int n ∷ b ∷ []) = refl
+  releases_by (Address p ∷ Int n ∷ []) = refl
+  releases_by (Address p ∷ Address q ∷ []) = refl
+  releases_by (Int n ∷ b ∷ c ∷ more) = refl
+  releases_by (Address p ∷ Int n ∷ c ∷ more) = refl
+  releases_by (Address p ∷ Address q ∷ c ∷ more) = refl
+
   known_by : (r : Rtl) → ((words : List Word) → D (known_action t.own t.answers r (words_given words)) ≡ next_known t f rest x r words) → D (and_then (operand_words m f.code.registers args) (λ words. known_action t.own t.answers r (words_given words))) ≡ with_found (operand_words m f.code.registers args) (next_known t f rest x r)
   known_by r h = d_then (operand_words m f.code.registers args) (λ words. known_action t.own t.answers r (words_given words)) (next_known t f rest x r) h
 
   entry_by : (r : Rtl) → IsRun args (CallsEntry r) → D (entry_action m f.code.registers t.own t.answers args r) ≡ next_entry m t f rest x args r
-  entry_by TargetInit is = sym (begins (is_worker t) (runs_loop args) is)
-    where
-      begins : (a b : Bool) → b ≡ false → (if a && b then Local (goes_in t f rest (Loops Sleeps)) else Local (goes_on t f rest x (Int t.answers.init))) ≡ Local (goes_on t f rest x (Int t.answers.init))
-      begins a true e = let g : ⊥ = cc in absurd g
-      begins true false e = refl
-      begins false false e = refl
+  entry_by TargetInit is = begins_by (is_worker t && runs_loop args)
   entry_by TargetDeinit is = refl
-  entry_by Parallel is = absurd is
-  entry_by AllocShared is = absurd is
-  entry_by FreeShared is = absurd is
+  entry_by Parallel is = d_then (operand_words m f.code.registers args) (fork_action (fork_of m args)) (λ words. with_result (fork_of m args) (forks t f rest words)) (fork_by (fork_of m args))
+  entry_by AllocShared is = known_by AllocShared makes_by
+  entry_by FreeShared is = known_by FreeShared releases_by
   entry_by ForStaticInit is = absurd is
   entry_by Print is = known_by Print prints_by
-  entry_by KernelParallel is = absurd is
+  entry_by KernelParallel is = known_by KernelParallel (λ words. refl)
   entry_by GetSharedVariables is = known_by GetSharedVariables shares_by
   entry_by RegionBarrier is = known_by RegionBarrier (λ words. meets_by (t.answers.level == 0))
   entry_by GlobalThreadNum is = known_by GlobalThreadNum (λ words. refl)

@@ -120,6 +120,20 @@ pub front_more : (m : Module) (s : ThreadData) (args : List Typed) (n : ℕ) (b 
 unfolding reads_more
 front_more m s args n b v there word e = (reads_more m s args n b v there word e, refl)
 
+-- ---- the word at a place among them
+
+pub found_last : {A : Type 0} (xs : List A) (x : A) (k : ℕ) → length xs ≡ k → slice_get (xs ++ x ∷ []) k ≡ Some x
+found_last [] x zero e = refl
+found_last [] x (suc k) e = absurd (omega arith)
+found_last (y ∷ ys) x zero e = absurd (omega arith)
+found_last (y ∷ ys) x (suc k) e = found_last ys x k (omega arith)
+
+pub found_before : {A : Type 0} (xs : List A) (x : A) (k : ℕ) → (length xs ≡ k → ⊥) → slice_get (xs ++ x ∷ []) k ≡ slice_get xs k
+found_before [] x zero other = absurd (other refl)
+found_before [] x (suc k) other = refl
+found_before (y ∷ ys) x zero other = refl
+found_before (y ∷ ys) x (suc k) other = found_before ys x k (λ e. other (ap suc e))
+
 -- what a loop that binds words knows
 pub record Binds (m : Module) (s : ThreadData) (args : List Typed) (params : ℕ) (old values : List (Option Word)) (n at : ℕ) : Type 0 where
   pub read : Reads m s args n

@@ -1,13 +1,17 @@
+pub mod Answered
 pub mod Begins
 pub mod Branches
 pub mod Decides
 pub mod Elements
 pub mod Entered
 pub mod EntryNames
+pub mod Forks
 pub mod Jumps
 pub mod Looks
+pub mod Midst
 pub mod Moved
 pub mod Nexts
 pub mod Results
 pub mod Returned
 pub mod Shares
+pub mod Wrapped

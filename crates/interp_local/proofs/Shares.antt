@@ -4,7 +4,7 @@ use Rattle.std.specs.Prelude.{pos}
 use Rattle.ir_core.specs.declared.instructions.Typed.{Typed}
 use Rattle.ir_core.specs.declared.module.Module.{Module}
 use Rattle.ir_core.specs.declared.rtl.Rtl.{Rtl}
-use Rattle.ir_core.specs.declared.rtl.Rtl.TheVariants.{TargetInit, TargetDeinit}
+use Rattle.ir_core.specs.declared.rtl.Rtl.TheVariants.{TargetInit, TargetDeinit, Parallel}
 use Rattle.mem_model.specs.declared.memory.BlockName.TheVariants.{Captures}
 use Rattle.mem_model.specs.declared.memory.Byte.{Byte}
 use Rattle.mem_model.specs.declared.memory.Cell.TheVariants.{Ptr as PtrCell}
@@ -33,11 +33,12 @@ share_is t f rest at spot offset e =
     stored_in t f rest spot (store_own (find_in (f ∷ rest) spot) offset PtrCell area)
     ∙ sym (ap (λ w. with_found (put_own (record f { code = code_past f.code } ∷ rest) w PtrCell area) (λ fs. Local (with_frames t fs))) e)
 
--- all but init and deinit look at their operands
-pub other_entry : (m : Module) (r : Registers) (own : ℕ) (a : Answers) (operands : List Typed) (entry : Rtl) → (entry ≡ TargetInit → ⊥) → (entry ≡ TargetDeinit → ⊥) → entry_action m r own a operands entry ≡ and_then (operand_words m r operands) (λ words. known_action own a entry (words_given words))
-other_entry m r own a operands TargetInit no_init no_deinit = absurd (no_init refl)
-other_entry m r own a operands TargetDeinit no_init no_deinit = absurd (no_deinit refl)
-other_entry m r own a operands _ no_init no_deinit = refl
+-- all but init, deinit and forks look at their operands alone
+pub other_entry : (m : Module) (r : Registers) (own : ℕ) (a : Answers) (operands : List Typed) (entry : Rtl) → (entry ≡ TargetInit → ⊥) → (entry ≡ TargetDeinit → ⊥) → (entry ≡ Parallel → ⊥) → entry_action m r own a operands entry ≡ and_then (operand_words m r operands) (λ words. known_action own a entry (words_given words))
+other_entry m r own a operands TargetInit no_init no_deinit no_fork = absurd (no_init refl)
+other_entry m r own a operands TargetDeinit no_init no_deinit no_fork = absurd (no_deinit refl)
+other_entry m r own a operands Parallel no_init no_deinit no_fork = absurd (no_fork refl)
+other_entry m r own a operands _ no_init no_deinit no_fork = refl
 
 pub given_trap : (own : ℕ) (a : Answers) (entry : Rtl) (r : Result (List Word) Trap) (e : Trap) → Err e ≡ and_then r (λ words. Ok (words_given words)) → Err e ≡ and_then r (λ words. known_action own a entry (words_given words))
 given_trap own a entry (Err x) e h = let same : e ≡ x = cc in ap Err same

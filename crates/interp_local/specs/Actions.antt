@@ -1,5 +1,5 @@
 -- What an instruction does, once its operands are read.
-use Rattle.std.specs.Prelude.{◌≡◌, ℕ, ◌^◌, ◌<◌, ◌≤◌, nat_le, List, [], ◌∷◌, reverse, Option, Some, None, Result, Ok, Err, true, if◌then◌else◌, ◌==◌}
+use Rattle.std.specs.Prelude.{◌≡◌, ℕ, ◌^◌, ◌-◌, ◌<◌, not, ◌&&◌, ◌≤◌, nat_le, List, [], ◌∷◌, reverse, Option, Some, None, Result, Ok, Err, true, if◌then◌else◌, ◌==◌}
 use Rattle.ir_core.specs.declared.types.Ty.{Ty}
 use Rattle.ir_core.specs.declared.instructions.Typed.{Typed}
 use Rattle.ir_core.specs.declared.instructions.Case.{Case}
@@ -8,11 +8,12 @@ use Rattle.ir_core.specs.declared.instructions.Kind.{Kind}
 use Rattle.ir_core.specs.declared.instructions.Kind.TheVariants.{Bin, ICmp, Cast, Select, Alloca, Load as LoadInst, Store as StoreInst, Rmw, Gep, Fence, Call, Br, CondBr, Switch, Ret}
 use Rattle.ir_core.specs.declared.module.Module.{Module}
 use Rattle.ir_core.specs.declared.rtl.Rtl.{Rtl}
-use Rattle.ir_core.specs.declared.rtl.Rtl.TheVariants.{TargetInit, TargetDeinit, GetSharedVariables, Barrier as RegionBarrier, GlobalThreadNum, ThreadNum, NumThreads, Level, ParallelLevel, InParallel, IsSpmdExecMode, ForStaticFini, Print, KernelEndParallel, SpmdBarrier, GenericBarrier, HardwareThreadId}
+use Rattle.ir_core.specs.declared.rtl.Rtl.TheVariants.{TargetInit, TargetDeinit, Parallel, GetSharedVariables, Barrier as RegionBarrier, GlobalThreadNum, ThreadNum, NumThreads, Level, ParallelLevel, InParallel, IsSpmdExecMode, ForStaticFini, Print, KernelEndParallel, SpmdBarrier, GenericBarrier, HardwareThreadId, AllocShared, FreeShared, KernelParallel}
 use Rattle.ir_core.specs.FirstForm.{is_width}
 use Rattle.ir_core.specs.Places.{labels, place_in}
 use Rattle.ir_core.specs.Layout.{Size}
 use Rattle.mem_model.specs.Memory.{block_limit}
+use Rattle.mem_model.specs.declared.memory.Ptr.{Ptr}
 use Rattle.mem_model.specs.declared.memory.Word.{Word}
 use Rattle.mem_model.specs.declared.memory.Word.TheVariants.{Int, Ptr as Address}
 use Rattle.mem_model.specs.declared.step.Barrier.TheVariants.{Explicit, Team as TeamBarrier, Guard}
@@ -21,13 +22,17 @@ use Rattle.mem_model.specs.declared.step.Trap.TheVariants.{Unreachable, TooLarge
 use Rattle.mem_model.specs.Answers.{IsCell, IsOf}
 use Rattle.mem_model.specs.Thread.{Name, Registers, Answers, Frame, ThreadState, where_is, outside_region}
 use Rattle.mem_model.specs.Values.{width_of, value_word, operand, and_then, operand_words}
-use Rattle.mem_model.specs.Entries.{one_if, is_parallel, gets_shared}
-use Rattle.mem_model.specs.Next.{NextStep, Local, Pending, Trapped, Deinit as DeinitEvent, Does, Prints as PrintsNumber, Arrives as ArrivesAt, goes_on, goes_past, loads, stores, updates, allocates, case_for, to_block, Callee, CallsEntry, CallsFunction, CallsOther, defined_at, callee_of, next_call, returns}
+use Rattle.mem_model.specs.Entries.{one_if, is_parallel, runs_loop, gets_shared, releases}
+use Rattle.mem_model.specs.declared.phase.Phase.TheVariants.{Loops, Gathered}
+use Rattle.mem_model.specs.declared.phase.LoopPoint.TheVariants.{Sleeps}
+use Rattle.mem_model.specs.Next.{NextStep, Local, Pending, Trapped, Deinit as DeinitEvent, Does, Prints as PrintsNumber, Arrives as ArrivesAt, Forks as ForksEvent, with_found, goes_on, goes_past, goes_in, loads, stores, updates, allocates, case_for, to_block, Callee, CallsEntry, CallsFunction, CallsOther, defined_at, callee_of, next_call, returns, Makes as MakesBlock, AsksForWork}
 use Rattle.thread_state.specs.declared.state.Frame.{Frame as FrameData}
 use Rattle.thread_state.specs.declared.state.ThreadState.{ThreadState as ThreadData}
+use Rattle.mem_model.specs.Regions.{Fork, fork_of, words_operand, captured}
+use Rattle.captures.specs.Forks.{fork_data}
 use Rattle.interp_local.specs.declared.actions.Change.{Change}
 use Rattle.interp_local.specs.declared.actions.Action.{Action}
-use Rattle.interp_local.specs.declared.actions.Action.TheVariants.{Gives, Passes, Loads, Stores, Updates, Allocates, Shares, Outside, Arrives, Prints, Deinit, Calls, Jumps, Returns}
+use Rattle.interp_local.specs.declared.actions.Action.TheVariants.{Gives, Passes, Loads, Stores, Updates, Allocates, Shares, Outside, Arrives, Prints, Deinit, StartsLoop, Forks, Calls, Jumps, Returns, Makes, Releases, Asks}
 use Rattle.interp_local.specs.declared.actions.Words.{Words}
 use Rattle.interp_local.specs.declared.actions.Words.TheVariants.{Nothing, One, Two, More}
 use Rattle.interp_local.specs.Operands.{number, pointer, cell, or_unreachable, binary, comparison, conversion, selection, element}
@@ -56,8 +61,15 @@ words_given (word ∷ []) = One word
 words_given (first ∷ second ∷ []) = Two first second
 words_given (first ∷ second ∷ third ∷ more) = More
 
+-- the pointer that a call's only operand is
+abbrev pub only_pointer : Words → Result Ptr Trap
+only_pointer (One (Address at)) = Ok at
+only_pointer words = Err Unreachable
+
 -- what a thread of a number does at a call of an entry point that has looked at its operands, by what it is answered now
 abbrev pub known_action : ℕ → Answers → Rtl → Words → Result Action Trap
+known_action own a AllocShared (One (Int size)) = Ok (Makes size)
+known_action own a FreeShared (Two (Address at) (Int size)) = Ok (Releases at size)
 known_action own a GetSharedVariables (One (Address at)) = Ok (Shares at)
 known_action own a RegionBarrier words = Ok (if a.level == 0 then Passes else Arrives Explicit)
 known_action own a GlobalThreadNum words = Ok (Gives (Int a.number))
@@ -69,16 +81,27 @@ known_action own a InParallel words = Ok (Gives (Int (one_if (is_parallel a))))
 known_action own a IsSpmdExecMode words = Ok (Gives (Int a.spmd))
 known_action own a ForStaticFini words = Ok Passes
 known_action own a Print (One (Int n)) = Ok (Prints n)
+known_action own a KernelParallel words = Ok Asks
 known_action own a KernelEndParallel words = Ok Outside
 known_action own a SpmdBarrier words = Ok (Arrives Guard)
 known_action own a GenericBarrier words = Ok (Arrives TeamBarrier)
 known_action own a HardwareThreadId words = Ok (Gives (Int own))
 known_action own a r words = Err Unreachable
 
--- init and deinit look at no operand
+-- a worker begins the runtime's own loop where the flag asks for it; every other thread goes on
+abbrev pub init_action : Answers → List Typed → Action
+init_action a operands = if not (a.init == 2 ^ 32 - 1) && runs_loop operands then StartsLoop else Gives (Int a.init)
+
+-- a fork of what its operands name, with the words of the operands
+abbrev pub fork_action : Option Fork → List Word → Result Action Trap
+fork_action None words = Err Unreachable
+fork_action (Some fork) words = Ok (Forks (fork_data fork) (words_operand words))
+
+-- init and deinit look at no register
 abbrev pub entry_action : Module → Registers → ℕ → Answers → List Typed → Rtl → Result Action Trap
-entry_action m r own a operands TargetInit = Ok (Gives (Int a.init))
+entry_action m r own a operands TargetInit = Ok (init_action a operands)
 entry_action m r own a operands TargetDeinit = Ok Deinit
+entry_action m r own a operands Parallel = and_then (operand_words m r operands) (fork_action (fork_of m operands))
 entry_action m r own a operands entry = and_then (operand_words m r operands) (λ words. known_action own a entry (words_given words))
 
 abbrev pub call_action : Module → Registers → ℕ → Answers → List Typed → Callee → Result Action Trap
@@ -136,12 +159,14 @@ action_of m k r own answers _ = Err Unreachable
 abbrev pub IsChange : Change → Type 0
 IsChange change = (is_width change.width ≡ true) × (change.number < 2 ^ change.width)
 
--- an access is of a cell, a word that is stored is of it, and a new block is no larger than a block may be
+-- an access is of a cell, a word that is stored is of it, a new block is no larger than a block may be, and a fork captures as many words
+-- as the capture area holds
 abbrev pub IsAction : Action → Type 0
 IsAction (Loads at c) = IsCell c
 IsAction (Stores at c word) = IsCell c × IsOf c word
 IsAction (Updates at change) = IsChange change
 IsAction (Allocates size) = size ≤ block_limit
+IsAction (Forks fork words) = (fork.count ≤ 64) × (fork.wrapper < 2 ^ 32)
 IsAction _ = Unit {0}
 
 -- takes memory: a call of a function with blocks, or a new block of the stack
@@ -149,6 +174,16 @@ abbrev pub TakesRoom : Action → Type 0
 TakesRoom (Calls k) = Unit {0}
 TakesRoom (Allocates size) = Unit {0}
 TakesRoom _ = ⊥
+
+-- takes several steps
+abbrev pub IsLong : Action → Type 0
+IsLong StartsLoop = Unit {0}
+IsLong (Forks fork words) = Unit {0}
+IsLong _ = ⊥
+
+abbrev pub IsFork : Action → Type 0
+IsFork (Forks fork words) = Unit {0}
+IsFork _ = ⊥
 
 -- ---- what an action is
 
@@ -164,7 +199,13 @@ acted m t f rest x args (Shares at) = gets_shared t f rest at
 acted m t f rest x args Outside = Local (record (goes_past t f rest) { answers = outside_region t })
 acted m t f rest x args (Arrives kind) = Pending (ArrivesAt kind None)
 acted m t f rest x args (Prints n) = Pending (Does (PrintsNumber n))
+acted m t f rest x args (Makes size) = Pending (Does (MakesBlock size))
+acted m t f rest x args (Releases at size) = releases size (where_is at)
+acted m t f rest x args Asks = Pending AsksForWork
 acted m t f rest x args Deinit = Pending DeinitEvent
+acted m t f rest x args StartsLoop = Local (goes_in t f rest (Loops Sleeps))
+acted m t f rest x args (Forks fork words) =
+    if t.enters then Pending (ArrivesAt TeamBarrier (Some Gathered)) else with_found (captured (f ∷ rest) words fork.count) (λ ps. Pending (ForksEvent fork.function fork.wrapper ps))
 acted m t f rest x args (Calls k) = next_call m t f rest x args (defined_at m (Some k))
 acted m t f rest x args (Jumps b) = to_block m t f rest (Some b)
 acted m t f rest x args (Returns word) = returns t rest f.code.back word

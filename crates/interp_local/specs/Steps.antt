@@ -1,8 +1,8 @@
 -- The step that a thread makes by itself, and what a call that makes it answers.
-use Rattle.std.specs.Prelude.{◌≡◌, ℕ, List, [], ◌∷◌, reverse, false, Option, Some, None, Result, Ok, Err}
+use Rattle.std.specs.Prelude.{◌≡◌, ◌≤◌, ℕ, zero, slice_get, List, [], ◌∷◌, reverse, false, Option, Some, None, Result, Ok, Err}
 use Rattle.ir_core.specs.declared.instructions.Inst.{Inst}
 use Rattle.ir_core.specs.declared.instructions.Typed.{Typed}
-use Rattle.ir_core.specs.declared.rtl.Rtl.TheVariants.{TargetInit, Parallel, AllocShared, FreeShared, ForStaticInit, KernelParallel}
+use Rattle.ir_core.specs.declared.rtl.Rtl.TheVariants.{TargetInit, Parallel, ForStaticInit}
 use Rattle.ir_core.specs.declared.instructions.Kind.{Kind}
 use Rattle.ir_core.specs.declared.instructions.Kind.TheVariants.{Alloca, Gep, Call}
 use Rattle.ir_core.specs.declared.module.Module.{Module}
@@ -14,9 +14,13 @@ use Rattle.mem_model.specs.declared.step.Trap.{Trap}
 use Rattle.mem_model.specs.declared.memory.Ptr.{Ptr}
 use Rattle.mem_model.specs.Thread.{Name, Frame, ThreadState, Where, InStack, Elsewhere as ElsewhereAt}
 use Rattle.mem_model.specs.Next.{NextStep, Local, Pending, Done, Trapped, Callee, CallsEntry, CallsFunction, callee_of, Next}
-use Rattle.mem_model.specs.Entries.{runs_loop}
+use Rattle.mem_model.specs.declared.phase.Phase.{Phase}
+use Rattle.mem_model.specs.declared.phase.Phase.TheVariants.{Begins, Loops}
+use Rattle.mem_model.specs.declared.phase.LoopPoint.TheVariants.{Considers}
 use Rattle.thread_state.specs.declared.state.Frame.{Frame as FrameData}
 use Rattle.thread_state.specs.declared.state.ThreadState.{ThreadState as ThreadData}
+use Rattle.shapes.specs.Facts.{is_constant}
+use Rattle.mem_model.specs.Regions.{number_given}
 use Rattle.thread_state.specs.Seen.{thread_seen, place_seen, IsThread, IsSeen}
 use Rattle.thread_state.specs.Moves.{names_of, IsPlaceOf}
 use Rattle.interp_local.specs.declared.steps.Part.{Part}
@@ -32,9 +36,23 @@ IsOwn m old new Done (Ok HasEnded) = new ≡ old
 IsOwn m old new (Trapped x) (Err y) = (x ≡ y) × IsSeen m new (thread_seen m old)
 IsOwn m old new _ _ = ⊥
 
+-- the state that was to come, or the trap and the state as it was
+abbrev pub IsAnswered : {U : Type 0} → Module → ThreadData → ThreadData → Result ThreadState Trap → Result U Trap → Type 0
+IsAnswered m old new (Ok u) (Ok done) = IsSeen m new u
+IsAnswered m old new (Err x) (Err y) = (x ≡ y) × (new ≡ old)
+IsAnswered m old new _ _ = ⊥
+
 abbrev pub first_inst : Module → List FrameData → Option Inst
 first_inst m [] = None
 first_inst m (f ∷ outer) = inst_at m (place_seen f)
+
+abbrev pub first_phase : List FrameData → Phase
+first_phase [] = Begins
+first_phase (f ∷ outer) = f.phase
+
+-- how far the innermost call has come in its instruction
+abbrev pub phase_of : ThreadData → Phase
+phase_of s = first_phase (reverse s.frames.items)
 
 -- the instruction at which the innermost call stands
 abbrev pub inst_of : Module → ThreadData → Option Inst
@@ -67,9 +85,15 @@ abbrev pub InstTakes : Module → Option Inst → Type 0
 InstTakes m None = ⊥
 InstTakes m (Some i) = TakesMemory m i.kind
 
+-- of the runtime's own loop the step that calls a wrapper
+abbrev pub TakesIn : Module → Option Inst → Phase → Type 0
+TakesIn m i Begins = InstTakes m i
+TakesIn m i (Loops (Considers zero (Some wrapper))) = Unit {0}
+TakesIn m i _ = ⊥
+
 abbrev pub FramesTake : Module → List Frame → Type 0
 FramesTake m [] = ⊥
-FramesTake m (f ∷ rest) = InstTakes m (inst_at m f.code.at)
+FramesTake m (f ∷ rest) = TakesIn m (inst_at m f.code.at) f.code.phase
 
 -- the instruction at which the thread stands takes memory
 abbrev pub StandsAtTaking : Module → ThreadState → Type 0
@@ -87,15 +111,15 @@ IsNext m old new result = IsTried (StandsAtTaking m (thread_seen m old)) m old n
 
 -- ---- modules that are served
 
--- the entry points that are run by now: not the runtime's own loop, forks, allocations, releases, static schedules, and questions
--- for published work
+-- a fork captures no more words than the capture area holds
+abbrev pub FewCaptured : List Typed → Type 0
+FewCaptured operands = (v : Typed) (n : ℕ) → slice_get operands 8 ≡ Some v → number_given v.value ≡ Some n → n ≤ 64
+
+-- the entry points that are run by now: not those of kernels in SPMD mode, and not static schedules
 abbrev pub IsRun : List Typed → Callee → Type 0
-IsRun operands (CallsEntry TargetInit) = runs_loop operands ≡ false
-IsRun operands (CallsEntry Parallel) = ⊥
-IsRun operands (CallsEntry AllocShared) = ⊥
-IsRun operands (CallsEntry FreeShared) = ⊥
+IsRun operands (CallsEntry TargetInit) = is_constant 2 (slice_get operands 1) ≡ false
+IsRun operands (CallsEntry Parallel) = FewCaptured operands
 IsRun operands (CallsEntry ForStaticInit) = ⊥
-IsRun operands (CallsEntry KernelParallel) = ⊥
 IsRun operands _ = Unit {0}
 
 -- the type of a new block of the stack has a size, and so has the one that a getelementptr goes through; a call is of a function or of

@@ -1,5 +1,5 @@
 //! What an instruction does, once its operands are read.
-ghost use Rattle.std.specs.Prelude.{◌≡◌, ℕ, List, [], ◌∷◌, ◌++◌, IfOk, Some, Ok, Err, ◌==◌, if◌then◌else◌};
+ghost use Rattle.std.specs.Prelude.{◌≡◌, ℕ, slice_get, List, [], ◌∷◌, ◌++◌, IfOk, Some, Ok, Err, ◌==◌, if◌then◌else◌};
 ghost use Rattle.ir_core.specs.declared.instructions.Typed.{Typed};
 ghost use Rattle.mem_model.specs.declared.memory.Word.{Word as SpecWord};
 ghost use Rattle.mem_model.specs.Thread.{Registers, Answers as SpecAnswers};
@@ -10,13 +10,16 @@ ghost use Rattle.ir_core.specs.Places.{function_place};
 ghost use Rattle.ir_core.specs.Layout.{WellFormed, Size};
 ghost use Rattle.mem_model.specs.Next.{CallsEntry, defined_at, callee_of, is_case, case_for};
 ghost use Rattle.interp_local.specs.Operands.{AreFew, registers};
-ghost use Rattle.interp_local.specs.Steps.{IsServed};
-ghost use Rattle.interp_local.specs.Actions.{IsAction, gives, action_of, words_given, known_action, entry_action, call_action, jump, function_of, load_action, store_action, update_action, block_action, branch_action, switch_action, return_action};
+ghost use Rattle.mem_model.specs.Regions as regions;
+ghost use Rattle.interp_local.specs.Steps.{FewCaptured, IsRun, IsServed};
+ghost use Rattle.interp_local.specs.Actions.{IsAction, gives, action_of, words_given, known_action, init_action, fork_action, entry_action, call_action, jump, function_of, load_action, store_action, update_action, block_action, branch_action, switch_action, return_action};
 
 use crate::addresses::element;
+use crate::heap::{make, release};
 use crate::operands::{
     binary, cell, comparison, conversion, number, operand, pointer, selection, value_word, width_of,
 };
+use captures::{Fork, fork_of};
 use ir_core::{Case, Kind, Name, RmwOp, Rtl, Ty, Typed, Value};
 use ir_tables::Indexed;
 use mem_model::{Barrier, Cell, Ptr, Trap, Word};
@@ -50,8 +53,18 @@ pub enum Action {
     Arrives(Barrier),
     /// Prints a number, and goes on behind the instruction.
     Prints(u64),
+    /// Makes a heap block of so many zero bytes.
+    Makes(u64),
+    /// Releases the heap block of so many bytes at a pointer.
+    Releases(Ptr, u64),
+    /// Asks for the published work.
+    Asks,
     /// Calls `__kmpc_target_deinit`.
     Deinit,
+    /// Begins the runtime's own loop.
+    StartsLoop,
+    /// Forks, with the word that says where the captured words stand.
+    Forks(Fork, Option<Word>),
     /// Calls the function at this place of the module.
     Calls(usize),
     /// Goes to the block at this place of the function.
@@ -148,7 +161,7 @@ fn with_word(words: Words, word: Word) -> Words
 }
 
 /// The words of operands.
-fn given(m: &Indexed, s: &ThreadState, args: &[Typed]) -> Result<Words, Trap>
+pub(crate) fn given(m: &Indexed, s: &ThreadState, args: &[Typed]) -> Result<Words, Trap>
     requires { AreFew m.now }
     ensures { result ≡ and_then (operand_words m.now (registers m.now s.now) args.now) (λ words. Ok (words_given words)) }
 {
@@ -214,6 +227,8 @@ fn known(s: &ThreadState, entry: Rtl, words: Words) -> Result<Action, Trap>
 {
     let answers = s.answers;
     match entry {
+        Rtl::AllocShared => make(words),
+        Rtl::FreeShared => release(words),
         Rtl::GetSharedVariables => share(words),
         Rtl::Barrier => Ok(meet(answers.level)),
         Rtl::GlobalThreadNum | Rtl::ThreadNum => Ok(answer(answers.number)),
@@ -223,6 +238,7 @@ fn known(s: &ThreadState, entry: Rtl, words: Words) -> Result<Action, Trap>
         Rtl::IsSpmdExecMode => Ok(answer(answers.spmd)),
         Rtl::ForStaticFini => Ok(Action::Passes),
         Rtl::Print => print(words),
+        Rtl::KernelParallel => Ok(Action::Asks),
         Rtl::KernelEndParallel => Ok(Action::Outside),
         Rtl::SpmdBarrier => Ok(Action::Arrives(Barrier::Guard)),
         Rtl::GenericBarrier => Ok(Action::Arrives(Barrier::Team)),
@@ -231,22 +247,83 @@ fn known(s: &ThreadState, entry: Rtl, words: Words) -> Result<Action, Trap>
     }
 }
 
+/// Whether the last operand of an init call asks for the runtime's own loop.
+fn runs_loop(args: &[Typed]) -> bool
+    ensures { result ≡ spec.runs_loop args.now }
+{
+    match args {
+        [_, _, flag] => matches!(flag.value, Value::Int(1)),
+        _ => false,
+    }
+}
+
+/// What `__kmpc_target_init` tells a thread that runs user code.
+const USER_CODE: u32 = u32::MAX;
+
+/// A call of `__kmpc_target_init`.
+fn init(answers: Answers, args: &[Typed]) -> Action
+    ensures { result ≡ init_action (answers_seen answers) args.now }
+{
+    if answers.init != USER_CODE && runs_loop(args) {
+        Action::StartsLoop
+    } else {
+        answer(answers.init)
+    }
+}
+
+/// The word of the operand at a place, once all operands are read.
+fn word_at(m: &Indexed, s: &ThreadState, args: &[Typed], place: usize) -> Result<Option<Word>, Trap>
+    requires { AreFew m.now }
+    ensures { result ≡ and_then (operand_words m.now (registers m.now s.now) args.now) (λ words. Ok (slice_get words place)) }
+{
+    let mut found = None;
+    let mut at = 0;
+    for arg in args {
+        let word = value_word(m, s, &arg.value)?;
+        if at == place {
+            found = Some(word);
+        }
+        at += 1;
+    }
+    Ok(found)
+}
+
+/// The place of the operand of a fork that says where the captured words stand.
+const WORDS_OPERAND: usize = 7;
+
+/// A call of `__kmpc_parallel_51`.
+fn fork(m: &Indexed, s: &ThreadState, args: &[Typed]) -> Result<Action, Trap>
+    requires few { AreFew m.now }
+    requires served { FewCaptured args.now }
+    ensures value { result ≡ and_then (operand_words m.now (registers m.now s.now) args.now) (fork_action (regions.fork_of m.now args.now)) }
+    ensures is { IfOk result IsAction }
+{
+    let words = word_at(m, s, args, WORDS_OPERAND)?;
+    match fork_of(m, args) {
+        Some(fork) => Ok(Action::Forks(fork, words)),
+        None => Err(Trap::Unreachable),
+    }
+}
+
 /// A call of an entry point.
 fn call_entry(m: &Indexed, s: &ThreadState, entry: Rtl, args: &[Typed]) -> Result<Action, Trap>
-    requires { AreFew m.now }
+    requires few { AreFew m.now }
+    requires served { IsRun args.now (CallsEntry entry) }
     ensures value { result ≡ entry_action m.now (registers m.now s.now) s.now.own (answers_seen s.now.answers) args.now entry }
     ensures is { IfOk result IsAction }
 {
     match entry {
-        Rtl::TargetInit => Ok(answer(s.answers.init)),
+        Rtl::TargetInit => Ok(init(s.answers, args)),
         Rtl::TargetDeinit => Ok(Action::Deinit),
+        Rtl::Parallel => fork(m, s, args),
         _ => known(s, entry, given(m, s, args)?),
     }
 }
 
 /// A call.
 fn call(m: &Indexed, s: &ThreadState, callee: &Value, args: &[Typed]) -> Result<Action, Trap>
-    requires { AreFew m.now }
+    requires few { AreFew m.now }
+    requires served { IsRun args.now (callee_of m.now callee.now) }
     ensures value { result ≡ call_action m.now (registers m.now s.now) s.now.own (answers_seen s.now.answers) args.now (callee_of m.now callee.now) }
     ensures is { IfOk result IsAction }
 {

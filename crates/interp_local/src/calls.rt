@@ -1,5 +1,5 @@
 //! Calls of functions with blocks, and new blocks of the stack: the steps that take memory.
-ghost use Rattle.std.specs.Prelude.{◌≡◌, ℕ, ◌+◌, ◌<◌, ◌≤◌, ◌^◌, List as Listed, [], ◌∷◌, ◌++◌, Option, Some, None, length, replicate, IfOk};
+ghost use Rattle.std.specs.Prelude.{◌≡◌, ℕ, ◌+◌, ◌<◌, ◌≤◌, ◌^◌, List as Listed, [], ◌∷◌, ◌++◌, Option, Some, None, length, replicate, slice_get, IfOk};
 ghost use Rattle.std.specs.Option.{option_copied};
 ghost use Rattle.ir_core.specs.declared.module.Module.{Module};
 ghost use Rattle.ir_core.specs.Places.{Name as SpecName};
@@ -14,7 +14,10 @@ ghost use Rattle.thread_state.specs.Moves.{index_of};
 ghost use Rattle.interp_local.specs.Operands.{AreFew, registers};
 ghost use Rattle.interp_local.specs.Actions as spec;
 ghost use Rattle.interp_local.specs.Calls.{IsBody, AreBound, put_words};
-ghost use Rattle.interp_local.specs.Steps.{AreServed, IsTried, Knows, inst_of};
+ghost use Rattle.interp_local.specs.Steps.{IsTried, Knows, inst_of, phase_of};
+ghost use Rattle.mem_model.specs.declared.phase.Phase.TheVariants.{Begins};
+ghost use Rattle.mem_model.specs.Regions.{params_at};
+ghost use Rattle.ir_core.specs.Places.{register_names};
 ghost use Rattle.interp_local.specs.Runs.{Tells};
 
 use crate::operands::value_word;
@@ -56,6 +59,17 @@ fn look_words(m: &Indexed, s: &ThreadState, args: &[Typed]) -> Result<(), Trap>
         value_word(m, s, &arg.value)?;
     }
     Ok(())
+}
+
+/// How many parameters the function at a place has; none where there is no function.
+pub fn param_count(m: &Indexed, place: usize) -> usize
+    ensures count { result ≡ length (params_at (slice_get m.now.functions place)) }
+    ensures few { result ≤ length (register_names m.now place) }
+{
+    match m.module().functions.get(place) {
+        None => 0,
+        Some(function) => function.params.len(),
+    }
 }
 
 /// Puts the word of a call's operand in its place of the registers, where it is one of so many parameters.
@@ -121,7 +135,7 @@ pub(crate) fn call(
 ) -> Result<Own, Or<Trap>>
     requires thread { IsThread m.now s.old }
     requires few { AreFew m.now }
-    requires served { AreServed m.now }
+    requires begins { phase_of s.old ≡ Begins }
     requires stands { inst_of m.now s.old ≡ Some inst.now }
     ensures { (f : Frame) (rest : Listed Frame) → (thread_seen m.now s.old).frames ≡ f ∷ rest → IsTried (Unit {0}) m.now s.old s.new (next_call m.now (thread_seen m.now s.old) f rest inst.now.result (spec.arguments inst.now.kind) (defined_at m.now (Some place))) result }
 {

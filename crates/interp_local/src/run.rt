@@ -16,11 +16,13 @@ ghost use Rattle.interp_local.specs.Runs.{Tells, IsRan, HasRunShort, is_went, pa
 
 use crate::actions::{Action, Change, decide};
 use crate::calls::look_call;
+use crate::heap::look_release;
+use crate::phases::{look_in, phase};
 use crate::phis::look_jump;
-use crate::steps::{Own, Part, Spot, Stepped, inst_at, next, part_of};
+use crate::steps::{Own, Part, Spot, Stepped, inst_at, look_fork, next, part_of};
 use ir_core::{Inst, Or, OutOfMemory};
 use ir_tables::Indexed;
-use mem_model::{Cell, Ptr, Trap, Word};
+use mem_model::{Cell, Phase, Ptr, Trap, Word};
 use std::alloc::Global;
 use thread_state::ThreadState;
 
@@ -137,7 +139,7 @@ fn look_return(s: &ThreadState) -> Own
 }
 
 /// What an action would be, where there is memory.
-fn look_at(m: &Indexed, s: &ThreadState, inst: &Inst, action: Action) -> Stepped
+fn look_at(alloc: Global, m: &Indexed, s: &ThreadState, inst: &Inst, action: Action) -> Stepped
     requires thread { IsThread m.now s.now }
     requires few { AreFew m.now }
     requires stands { inst_of m.now s.now ≡ Some inst.now }
@@ -146,10 +148,14 @@ fn look_at(m: &Indexed, s: &ThreadState, inst: &Inst, action: Action) -> Stepped
 {
     match action {
         Action::Gives(_) | Action::Passes | Action::Allocates(_) | Action::Outside => Ok(Own::Went),
+        Action::StartsLoop => Ok(Own::Went),
         Action::Loads(at, cell) => look_load(s, at, cell),
         Action::Stores(at, cell, _) => look_store(s, at, cell),
         Action::Shares(at) => look_share(s, at),
-        Action::Deinit | Action::Arrives(_) | Action::Prints(_) => Ok(Own::Event),
+        Action::Deinit | Action::Arrives(_) | Action::Prints(_) | Action::Makes(_) | Action::Asks =>
+            Ok(Own::Event),
+        Action::Forks(fork, words) => look_fork(alloc, s, fork, words),
+        Action::Releases(at, _) => look_release(at),
         Action::Jumps(block) => look_jump(m, s, block),
         Action::Returns(_) => Ok(look_return(s)),
         Action::Updates(at, change) => look_update(s, at, change),
@@ -162,7 +168,7 @@ fn look_at(m: &Indexed, s: &ThreadState, inst: &Inst, action: Action) -> Stepped
 /// # Errors
 ///
 /// The trap of the step.
-pub fn look(m: &Indexed, s: &ThreadState) -> Result<Own, Trap>
+pub fn look(alloc: Global, m: &Indexed, s: &ThreadState) -> Result<Own, Trap>
     requires thread { IsThread m.now s.now }
     requires few { AreFew m.now }
     requires served { AreServed m.now }
@@ -174,8 +180,10 @@ pub fn look(m: &Indexed, s: &ThreadState) -> Result<Own, Trap>
     let Some(inst) = inst_at(m, s) else {
         return Err(Trap::Unreachable);
     };
-    let action = decide(m, s, &inst.kind)?;
-    look_at(m, s, inst, action)
+    match phase(s) {
+        Phase::Begins => look_at(alloc, m, s, inst, decide(m, s, &inst.kind)?),
+        phase => look_in(phase),
+    }
 }
 
 /// Whether a step was made.
@@ -239,6 +247,6 @@ pub fn local_run(
     }
     Ok(Ran {
         steps,
-        pause: pause_of(look(m, s)),
+        pause: pause_of(look(alloc, m, s)),
     })
 }

@@ -1,5 +1,5 @@
 //! The steps that a thread makes by itself.
-ghost use Rattle.std.specs.Prelude.{◌≡◌, ℕ, IsSome, ◌+◌, ◌<◌, ◌^◌, List, [], ◌∷◌, Option, Some, Ok, IfOk, OnSome};
+ghost use Rattle.std.specs.Prelude.{◌≡◌, ◌≤◌, ℕ, IsSome, ◌+◌, ◌<◌, ◌^◌, List, [], ◌∷◌, Option, Some, Ok, IfOk, OnSome};
 ghost use Rattle.std.specs.Option.{option_copied};
 ghost use Rattle.ir_core.specs.Places.{Name};
 ghost use Rattle.mem_model.specs.Answers.{IsCell, IsOf};
@@ -9,18 +9,22 @@ ghost use Rattle.mem_model.specs.Entries.{gets_shared};
 ghost use Rattle.ir_core.specs.declared.instructions.Typed.{Typed};
 ghost use Rattle.mem_model.specs.Next.{loads, stores, updates, goes_past, goes_back, returns, result_of};
 ghost use Rattle.interp_local.specs.Operands.{AreFew};
-ghost use Rattle.interp_local.specs.Actions.{IsAction, IsChange, TakesRoom, arguments, acted};
-ghost use Rattle.thread_state.specs.Seen.{thread_seen, IsThread, IsSeen};
+ghost use Rattle.interp_local.specs.Actions.{IsAction, IsChange, IsFork, IsLong, TakesRoom, arguments, acted};
+ghost use Rattle.thread_state.specs.Seen.{thread_seen, IsThread, IsSeen, StandsAtLong};
 ghost use Rattle.thread_state.specs.Moves.{names_of, index_of, IsPlaceOf};
-ghost use Rattle.interp_local.specs.Steps.{IsOwn, IsTried, IsNext, Knows, inst_of, part_seen, AreServed};
+ghost use Rattle.interp_local.specs.Runs.{Tells, tried};
+ghost use Rattle.interp_local.specs.Steps.{IsOwn, IsTried, IsNext, Knows, inst_of, phase_of, part_seen, AreServed};
 
 use crate::actions::{Action, Change, decide};
 use crate::calls::{allocate, call};
+use crate::heap::look_release;
 use crate::operands::register;
+use crate::phases::{continue_in, end_region, phase};
 use crate::phis::jump;
+use captures::{Fork, captured};
 use ir_core::{Inst, Or};
 use ir_tables::Indexed;
-use mem_model::{BlockName, Cell, Ptr, Trap, Word, updated};
+use mem_model::{BlockName, Cell, LoopPoint, Phase, Ptr, Trap, Word, updated};
 use std::alloc::Global;
 use thread_state::ThreadState;
 
@@ -224,17 +228,38 @@ fn go_behind(m: &Indexed, s: &mut ThreadState, word: Option<Word>)
     }
 }
 
+/// Goes on behind an instruction that takes no result.
+fn skip(m: &Indexed, s: &mut ThreadState, word: Option<Word>)
+    requires { IsSome (inst_of m.now s.old) }
+    ensures { (f : Frame) (rest : List Frame) → IsThread m.now s.old → (thread_seen m.now s.old).frames ≡ f ∷ rest → IsSeen m.now s.new (goes_back (thread_seen m.now s.old) f rest None word) }
+{
+    if inst_at(m, s).is_none() {
+        unreachable!()
+    }
+    match word {
+        Some(word) => s.go_on(None, word),
+        None => s.go_past(),
+    }
+}
+
 /// Returns from the innermost call. The return from a thread's only call is an event.
 fn return_to(m: &Indexed, s: &mut ThreadState, word: Option<Word>) -> Own
     requires thread { IsThread m.now s.old }
-    requires served { AreServed m.now }
     ensures { (f : Frame) (rest : List Frame) → (thread_seen m.now s.old).frames ≡ f ∷ rest → IsOwn m.now s.old s.new (returns (thread_seen m.now s.old) rest f.code.back word) (Ok result) }
 {
     if s.frames.len() < 2 {
         return Own::Event;
     }
     s.leave();
-    go_behind(m, s, word);
+    match phase(s) {
+        Phase::Begins => go_behind(m, s, word),
+        Phase::Loops(_) => s.stay(Phase::Loops(LoopPoint::HasWorked)),
+        Phase::InRegion => {
+            s.stay(Phase::HasLeft);
+            end_region(s);
+        }
+        _ => skip(m, s, word),
+    }
     Own::Went
 }
 
@@ -242,9 +267,10 @@ fn return_to(m: &Indexed, s: &mut ThreadState, word: Option<Word>) -> Own
 fn perform_own(m: &Indexed, s: &mut ThreadState, register: Option<usize>, action: Action) -> Stepped
     requires thread { IsThread m.now s.old }
     requires few { AreFew m.now }
-    requires served { AreServed m.now }
     requires action { IsAction action }
     requires own { TakesRoom action → ⊥ }
+    requires other { IsFork action → ⊥ }
+    requires long { IsLong action → StandsAtLong m.now s.old }
     requires stands { IsSome (inst_of m.now s.old) }
     requires within { index_of s.old + 1 < 2 ^ 64 }
     ensures { (x : Option Name) (f : Frame) (rest : List Frame) (args : List Typed) → Knows m.now s.old x register f rest → IsOwn m.now s.old s.new (acted m.now (thread_seen m.now s.old) f rest x args action) result }
@@ -266,10 +292,38 @@ fn perform_own(m: &Indexed, s: &mut ThreadState, register: Option<usize>, action
             leave_region(s);
             Ok(Own::Went)
         }
-        Action::Deinit | Action::Arrives(_) | Action::Prints(_) => Ok(Own::Event),
+        Action::Deinit | Action::Arrives(_) | Action::Prints(_) | Action::Makes(_) | Action::Asks =>
+            Ok(Own::Event),
+        Action::Releases(at, _) => look_release(at),
+        Action::StartsLoop => {
+            s.stay(Phase::Loops(LoopPoint::Sleeps));
+            Ok(Own::Went)
+        }
         Action::Jumps(block) => jump(m, s, block),
         Action::Returns(word) => Ok(return_to(m, s, word)),
-        Action::Calls(_) | Action::Allocates(_) => unreachable!(),
+        Action::Calls(_) | Action::Allocates(_) | Action::Forks(_, _) => unreachable!(),
+    }
+}
+
+/// Whether a fork goes: the words that it captures can be read, unless the thread first waits for all others.
+pub(crate) fn look_fork(alloc: Global, s: &ThreadState, fork: Fork, words: Option<Word>) -> Stepped
+    requires { fork.count ≤ 64 }
+    ensures { (m : Module) (f : Frame) (rest : List Frame) (x : Option Name) (args : List Typed) → IsThread m s.now → (thread_seen m s.now).frames ≡ f ∷ rest → Tells (acted m (thread_seen m s.now) f rest x args (Action.Forks fork words)) result }
+{
+    if s.enters {
+        return Ok(Own::Event);
+    }
+    captured(alloc, s, words, fork.count)?;
+    Ok(Own::Event)
+}
+
+/// The same answer, where a step may want memory.
+fn refused(stepped: Stepped) -> Result<Own, Or<Trap>>
+    ensures { result ≡ tried stepped }
+{
+    match stepped {
+        Ok(own) => Ok(own),
+        Err(trap) => Err(Or::Refused(trap)),
     }
 }
 
@@ -283,8 +337,9 @@ fn perform(
 ) -> Result<Own, Or<Trap>>
     requires thread { IsThread m.now s.old }
     requires few { AreFew m.now }
-    requires served { AreServed m.now }
+    requires begins { phase_of s.old ≡ Phase.Begins }
     requires action { IsAction action }
+    requires long { IsLong action → StandsAtLong m.now s.old }
     requires stands { inst_of m.now s.old ≡ Some inst.now }
     requires within { index_of s.old + 1 < 2 ^ 64 }
     ensures { (f : Frame) (rest : List Frame) → (thread_seen m.now s.old).frames ≡ f ∷ rest → IsTried (TakesRoom action) m.now s.old s.new (acted m.now (thread_seen m.now s.old) f rest inst.now.result (arguments inst.now.kind) action) result }
@@ -293,10 +348,24 @@ fn perform(
     match action {
         Action::Calls(place) => call(alloc, m, s, inst, place),
         Action::Allocates(size) => allocate(alloc, s, register, size),
-        _ => match perform_own(m, s, register, action) {
-            Ok(own) => Ok(own),
-            Err(trap) => Err(Or::Refused(trap)),
-        },
+        Action::Forks(fork, words) => refused(look_fork(alloc, s, fork, words)),
+        _ => refused(perform_own(m, s, register, action)),
+    }
+}
+
+/// Makes the first step of the instruction at which a thread stands, unless it is an event.
+fn begin(alloc: Global, m: &Indexed, s: &mut ThreadState, inst: &Inst) -> Result<Own, Or<Trap>>
+    requires thread { IsThread m.now s.old }
+    requires few { AreFew m.now }
+    requires served { AreServed m.now }
+    requires stands { inst_of m.now s.old ≡ Some inst.now }
+    requires within { index_of s.old + 1 < 2 ^ 64 }
+    requires begins { phase_of s.old ≡ Phase.Begins }
+    ensures { IsNext m.now s.old s.new result }
+{
+    match decide(m, s, &inst.kind) {
+        Ok(action) => perform(alloc, m, s, inst, action),
+        Err(trap) => Err(Or::Refused(trap)),
     }
 }
 
@@ -318,8 +387,8 @@ pub fn next(alloc: Global, m: &Indexed, s: &mut ThreadState) -> Result<Own, Or<T
     let Some(inst) = inst_at(m, s) else {
         return Err(Or::Refused(Trap::Unreachable));
     };
-    match decide(m, s, &inst.kind) {
-        Ok(action) => perform(alloc, m, s, inst, action),
-        Err(trap) => Err(Or::Refused(trap)),
+    match phase(s) {
+        Phase::Begins => begin(alloc, m, s, inst),
+        phase => continue_in(alloc, m, s, inst, phase),
     }
 }

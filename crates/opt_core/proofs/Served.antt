@@ -26,7 +26,10 @@ use Rattle.shapes.specs.Facts.{insts_of, insts_in, calls, is_call_of}
 use Rattle.shapes.specs.Insts.{block_insts}
 use Rattle.shapes.specs.Limits.{kind_types}
 use Rattle.shapes.specs.Refusals.{is_built, is_unbuilt, refused_unbuilt, unbuilt}
-use Rattle.mem_model.specs.Entries.{first_named, runs_loop}
+use Rattle.mem_model.specs.Entries.{first_named}
+use Rattle.shapes.specs.Facts.{is_constant}
+use Rattle.thread_state.specs.Seen.{IsSpmdCall, IsSpmdKind}
+use Rattle.opt_core.proofs.Modes.{output_generic}
 use Rattle.mem_model.specs.Next.{Callee, CallsEntry, CallsFunction, CallsOther, entry_of, entry_or, with_body, defined_as, defined_at, callee_of}
 use Rattle.checked_modules.specs.Checked.{IsOutput}
 use Rattle.checked_modules.proofs.Outputs.{inst_off_at, output_sized}
@@ -100,18 +103,15 @@ first_fails q (s ∷ rs) x r none e = by (bytes_eq x (entry_name s)) e
     by true h here rest = ap q (sym (same_Some s r h)) ∙ here
     by false h here rest = rest h
 
--- the operands of an init call with its machine off run no loop
-off_runs_none : (operands : List Typed) → runs_loop (operands_off operands) ≡ false
-off_runs_none [] = refl
-off_runs_none (a ∷ []) = refl
-off_runs_none (a ∷ b ∷ []) = refl
-off_runs_none (a ∷ b ∷ c ∷ []) = refl
-off_runs_none (a ∷ b ∷ c ∷ d ∷ rest) = refl
+not_true : (b : Bool) → (b ≡ true → ⊥) → b ≡ false
+not_true true never = absurd (never refl)
+not_true false never = refl
 
-entry_runs : (operands : List Typed) (x : Name) (r : Rtl) → entry_name r ≡ x → is_built r ≡ true → IsRun (if bytes_eq x target_init then operands_off operands else operands) (CallsEntry r)
-entry_runs operands x TargetInit e built = ap (λ b. runs_loop (if b then operands_off operands else operands)) ((bytes_eq-Decides x target_init).1 (sym e)) ∙ off_runs_none operands
-entry_runs operands x TargetDeinit e built = tt
-entry_runs operands x _ e built = let f : ⊥ = cc in absurd f
+-- init calls that aren't in SPMD mode, and deinit
+entry_runs : (operands : List Typed) (x : Name) (r : Rtl) → entry_name r ≡ x → is_built r ≡ true → (IsSpmdCall operands (CallsEntry r) → ⊥) → IsRun operands (CallsEntry r)
+entry_runs operands x TargetInit e built generic = not_true (is_constant 2 (slice_get operands 1)) generic
+entry_runs operands x TargetDeinit e built generic = tt
+entry_runs operands x _ e built generic = let f : ⊥ = cc in absurd f
 
 body_runs : (operands : List Typed) (k : ℕ) (ps : List Param) (bs : List Block) → IsRun operands (with_body k ps bs)
 body_runs operands k ps [] = tt
@@ -126,35 +126,35 @@ defined_runs operands m (Some k) = by (slice_get m.functions k)
     by (Some f) = body_runs operands k f.params f.blocks
 
 named_runs : (m : Module) (operands : List Typed) (x : Name) (j : Inst) → is_unbuilt j ≡ false → ((r : Rtl) → entry_name r ≡ x → is_call_of r j ≡ true) → (o : Option Rtl) → entry_of x ≡ o →
-    IsRun (if bytes_eq x target_init then operands_off operands else operands) (entry_or o (defined_at m (function_place m x)))
-named_runs m operands x j built calls None e = defined_runs (if bytes_eq x target_init then operands_off operands else operands) m (function_place m x)
-named_runs m operands x j built calls (Some r) e =
+    (IsSpmdCall operands (entry_or o (defined_at m (function_place m x))) → ⊥) → IsRun operands (entry_or o (defined_at m (function_place m x)))
+named_runs m operands x j built calls None e generic = defined_runs operands m (function_place m x)
+named_runs m operands x j built calls (Some r) e generic =
     let name = is_named entry_points x r e in
-    entry_runs operands x r name (if_built (is_call_of r j) (is_built r) (calls r name) (first_fails (λ s. is_call_of s j && not (is_built s)) entry_points x r built e))
+    entry_runs operands x r name (if_built (is_call_of r j) (is_built r) (calls r name) (first_fails (λ s. is_call_of s j && not (is_built s)) entry_points x r built e)) generic
 
-call_runs : (m : Module) (operands : List Typed) (v : Value) (j : Inst) → is_unbuilt j ≡ false → ((r : Rtl) → is_call_of r j ≡ is_function (entry_name r) v) → IsRun (if calls_init v then operands_off operands else operands) (callee_of m v)
-call_runs m operands (GlobalValue x) j built calls = named_runs m operands x j built (λ r e. calls r ∙ (bytes_eq-Decides x (entry_name r)).1 (sym e)) (entry_of x) refl
-call_runs m operands (IntValue n) j built calls = tt
-call_runs m operands Null j built calls = tt
-call_runs m operands (Register x) j built calls = tt
+call_runs : (m : Module) (operands : List Typed) (v : Value) (j : Inst) → is_unbuilt j ≡ false → ((r : Rtl) → is_call_of r j ≡ is_function (entry_name r) v) → (IsSpmdCall operands (callee_of m v) → ⊥) → IsRun operands (callee_of m v)
+call_runs m operands (GlobalValue x) j built calls generic = named_runs m operands x j built (λ r e. calls r ∙ (bytes_eq-Decides x (entry_name r)).1 (sym e)) (entry_of x) refl generic
+call_runs m operands (IntValue n) j built calls generic = tt
+call_runs m operands Null j built calls generic = tt
+call_runs m operands (Register x) j built calls generic = tt
 
 -- ---- each instruction is served
 
-kind_served : (m : Module) (j : Inst) (k : Kind) → j.kind ≡ k → is_unbuilt j ≡ false → ((place : ℕ) (ty : Ty) → slice_get (kind_types (kind_off k)) place ≡ Some ty → WellFormed m.types ty) → IsServed m (kind_off k)
-kind_served m j (Alloca ty align) e built h = h 0 ty refl
-kind_served m j (Gep inbounds ty base path) e built h = h 0 ty refl
-kind_served m j (Call tail_word ret callee operands) e built h = call_runs m operands callee j built (λ r. ap (calls r) e)
-kind_served m j _ e built h = tt
+kind_served : (m : Module) (j : Inst) (k : Kind) → j.kind ≡ k → is_unbuilt j ≡ false → ((place : ℕ) (ty : Ty) → slice_get (kind_types (kind_off k)) place ≡ Some ty → WellFormed m.types ty) → (IsSpmdKind m (kind_off k) → ⊥) → IsServed m (kind_off k)
+kind_served m j (Alloca ty align) e built h generic = h 0 ty refl
+kind_served m j (Gep inbounds ty base path) e built h generic = h 0 ty refl
+kind_served m j (Call tail_word ret callee operands) e built h generic = call_runs m (if calls_init callee then operands_off operands else operands) callee j built (λ r. ap (calls r) e) generic
+kind_served m j _ e built h generic = tt
 
 off_served : (m : Module) → IsOutput (machine_off m) → unbuilt m ≡ None → AreServed (machine_off m)
-off_served m out none = record { kinds = λ p i is. by p i (inst_at m p) refl (sym (inst_off_at m p) ∙ is) (λ place ty. output_sized (machine_off m) out p i place ty is) }
+off_served m out none = record { kinds = λ p i is. by p i (inst_at m p) refl (sym (inst_off_at m p) ∙ is) (λ place ty. output_sized (machine_off m) out p i place ty is) (output_generic (machine_off m) out.kernels p i is) }
   where
-    by : (p : Place) (i : Inst) (o : Option Inst) → inst_at m p ≡ o → option_map inst_off o ≡ Some i → ((place : ℕ) (ty : Ty) → slice_get (kind_types i.kind) place ≡ Some ty → WellFormed m.types ty) → IsServed (machine_off m) i.kind
-    by p i None e f h = absurd (none-some i f)
-    by p i (Some j) e f h =
+    by : (p : Place) (i : Inst) (o : Option Inst) → inst_at m p ≡ o → option_map inst_off o ≡ Some i → ((place : ℕ) (ty : Ty) → slice_get (kind_types i.kind) place ≡ Some ty → WellFormed m.types ty) → (IsSpmdKind (machine_off m) i.kind → ⊥) → IsServed (machine_off m) i.kind
+    by p i None e f h generic = absurd (none-some i f)
+    by p i (Some j) e f h generic =
         let same = same_Some (inst_off j) i f in
         subst (λ (n : Inst). IsServed (machine_off m) n.kind) same
-        (kind_served (machine_off m) j j.kind refl (is_not_unbuilt m none p j e) (subst (λ (n : Inst). (place : ℕ) (ty : Ty) → slice_get (kind_types n.kind) place ≡ Some ty → WellFormed m.types ty) (sym same) h))
+        (kind_served (machine_off m) j j.kind refl (is_not_unbuilt m none p j e) (subst (λ (n : Inst). (place : ℕ) (ty : Ty) → slice_get (kind_types n.kind) place ≡ Some ty → WellFormed m.types ty) (sym same) h) (subst (λ (n : Inst). IsSpmdKind (machine_off m) n.kind → ⊥) (sym same) generic))
 
 pub are_served : (m out : Module) → out ≡ machine_off m → IsOutput out → unbuilt m ≡ None → AreServed out
 are_served m out is output none = subst AreServed (sym is) (off_served m (subst IsOutput is output) none)

@@ -4,7 +4,7 @@ ghost use Rattle.ir_core.specs.declared.module.Module.{Module as ModuleData};
 ghost use Rattle.ir_core.specs.MachineOff.{machine_off};
 ghost use Rattle.shapes.specs.Refusals.{unbuilt};
 ghost use Rattle.team_model.specs.Team.{team_start};
-ghost use Rattle.interp.specs.Teams.{team_seen, AreThreads};
+ghost use Rattle.interp.specs.Teams.{team_seen, IsTeam};
 ghost use Rattle.interp_local.specs.Operands.{AreFew};
 ghost use Rattle.replay.specs.Turns.{ReplayOf};
 ghost use Rattle.replay.specs.FaultNotes as notes_of;
@@ -70,7 +70,7 @@ fn replayed(
     requires out { out.now ≡ machine_off m.now }
     requires built { unbuilt m.now ≡ None }
     requires start { team_seen out.now team ≡ team_start out.now l.now }
-    requires threads { AreThreads out.now team.threads.items }
+    requires threads { IsTeam out.now team }
     requires few { AreFew out.now }
     requires args { length l.now.args ≤ 2 ^ 32 }
     requires lines { length pairs < 2 ^ 31 }

@@ -9,7 +9,7 @@ use Rattle.team_model.specs.Team.{Team}
 use Rattle.run_text.specs.declared.schedule.ScheduleFaultKind.{ScheduleFaultKind}
 use Rattle.run_text.specs.declared.schedule.ScheduleFault.{ScheduleFault}
 use Rattle.interp.specs.declared.team.Team.{Team as TeamData}
-use Rattle.interp.specs.Teams.{team_seen, AreThreads}
+use Rattle.interp.specs.Teams.{team_seen, IsTeam}
 use Rattle.replay.specs.Turns.{Turn, turns_from, turns, fault_of, if_ready, replayed}
 use Rattle.replay.specs.Replays.{TakesTurn, GoesOn, IsReplayed}
 
@@ -32,7 +32,7 @@ stops m zero t ts old new fault h = ap (λ f. Err (fault_of t f)) (let e : _ ≡
 stops m (suc left) t ts old new fault h = ap (λ o. if_ready t o (replayed m left ts)) h.1 ∙ ap (λ f. Err (fault_of t f)) (sym h.0)
 
 -- a step that is made keeps the threads' states
-pub keeps : (m : Module) (left thread fewer : ℕ) (old new : TeamData) → TakesTurn m left thread old new (Ok fewer) → AreThreads m new.threads.items
+pub keeps : (m : Module) (left thread fewer : ℕ) (old new : TeamData) → TakesTurn m left thread old new (Ok fewer) → IsTeam m new
 keeps m zero thread fewer old new h = absurd (let f : Ok fewer ≡ Err (Refused _) = h in cc)
 keeps m (suc left) thread fewer old new h = h.1
 

@@ -2,7 +2,7 @@
 ghost use Rattle.std.specs.Prelude.{◌≡◌, ◌++◌, ◌≤◌, ◌<◌, ◌^◌, List as Listed, length, Ok as OkOf, Err as ErrOf};
 ghost use Rattle.interp_local.specs.Operands.{AreFew};
 ghost use Rattle.interp_local.specs.Steps.{AreServed};
-ghost use Rattle.interp.specs.Teams.{team_seen, AreThreads};
+ghost use Rattle.interp.specs.Teams.{team_seen, IsTeam};
 ghost use Rattle.replay.specs.Turns.{Turn, turns, turns_from, replayed};
 ghost use Rattle.replay.specs.Replays.{TakesTurn, GoesOn, IsReplayed};
 
@@ -22,7 +22,7 @@ fn take_turn(
     left: u32,
     thread: u32,
 ) -> Result<u32, Or<ScheduleFaultKind>>
-    requires threads { AreThreads m.now team.old.threads.items }
+    requires threads { IsTeam m.now team.old }
     requires few { AreFew m.now }
     requires served { AreServed m.now }
     ensures { TakesTurn m.now left thread team.old team.new result }
@@ -46,7 +46,7 @@ fn run_pair(
     pair: Pair,
     line: u32,
 ) -> Result<u32, Or<ScheduleFault>>
-    requires threads { AreThreads m.now team.old.threads.items }
+    requires threads { IsTeam m.now team.old }
     requires few { AreFew m.now }
     requires served { AreServed m.now }
     ensures { (rest : Listed Turn) → GoesOn m.now (replayed m.now bound (turns_from pair.thread line 1 pair.count ++ rest) (team_seen m.now team.old)) rest team.new result }
@@ -80,7 +80,7 @@ pub fn replay(
     steps: u32,
     pairs: &[Pair],
 ) -> Result<(), Or<ScheduleFault>>
-    requires threads { AreThreads m.now team.old.threads.items }
+    requires threads { IsTeam m.now team.old }
     requires few { AreFew m.now }
     requires served { AreServed m.now }
     requires lines { length pairs.now < 2 ^ 31 }

@@ -9,7 +9,7 @@ use Rattle.mem_model.specs.declared.memory.Word.{Word}
 use Rattle.mem_model.specs.Thread.{assigned}
 use Rattle.mem_model.specs.Next.{code_on, code_past}
 use Rattle.thread_state.specs.declared.state.Frame.{Frame as FrameData}
-use Rattle.thread_state.specs.Seen.{value_at, value_or_none, registers_seen, code_seen, place_seen, IsLongInst}
+use Rattle.thread_state.specs.Seen.{value_at, value_or_none, registers_seen, code_seen, place_seen, IsLongInst, Occurs}
 use Rattle.thread_state.specs.Moves.{IsPlaceOf, with_register, code_at, put_value, frame_assigned, frame_kept, frame_past, frame_at, code_in, frame_in}
 use Rattle.mem_model.specs.declared.phase.Phase.{Phase}
 use Rattle.thread_state.proofs.Frames.{Replaces}
@@ -106,8 +106,8 @@ goes_behind m f x register word is = record {
 pub passes : (m : Module) (f : FrameData) → Replaces m code_past f (frame_past f)
 passes m f = record { size = refl; room = refl; function = refl; base = refl; fits = λ h. inl refl; code = λ size outer. refl }
 
-pub stays : (m : Module) (f : FrameData) (phase : Phase) → IsLongInst m (inst_at m (place_seen f)) → Replaces m (code_in phase) f (frame_in f phase)
-stays m f phase long = record { size = refl; room = refl; function = refl; base = refl; fits = λ h. inr long; code = λ size outer. refl }
+pub stays : (m : Module) (f : FrameData) (phase : Phase) → IsLongInst m (inst_at m (place_seen f)) → Occurs m phase → Replaces m (code_in phase) f (frame_in f phase)
+stays m f phase long occurs = record { size = refl; room = refl; function = refl; base = refl; fits = λ h. inr (long, occurs); code = λ size outer. refl }
 
 pub keeps : (m : Module) (f : FrameData) (at : ℕ) (word : Word) → Replaces m (λ c. c) f (frame_kept f at word)
 keeps m f at word = record { size = refl; room = length-set f.room at word; function = refl; base = refl; fits = λ h. h; code = λ size outer. refl }

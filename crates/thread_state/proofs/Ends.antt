@@ -58,4 +58,4 @@ left m s t g front was is cut own team enters counter answers f rest thread fram
     let numbers : (i : ℕ) (b : StackBlock) → slice_get t.stack.items i ≡ Some b → b.number < t.counter =
     λ i b e. subst (λ n. b.number < n) (sym counter) (thread.2 i b (get_take g.base i stack b (ap (λ bs. slice_get bs i) (sym cut) ∙ e))) in
     let frames_are : AreFrames m (length t.stack.items) (reverse t.frames.items) = subst (λ n. AreFrames m n (reverse t.frames.items)) (sym size) (subst (λ xs. AreFrames m g.base (reverse xs)) (sym is) are.4) in
-    ((frames_are, blocks, numbers), (λ i. record { own = own i; size = team i; enters = enters i; counter = counter i; frames = seen i; answers = answers_seen (answers i) }))
+    ((frames_are, blocks, numbers, λ e. thread.3 (sym enters ∙ e)), (λ i. record { own = own i; size = team i; enters = enters i; counter = counter i; frames = seen i; answers = answers_seen (answers i) }))

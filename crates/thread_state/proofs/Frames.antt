@@ -86,7 +86,7 @@ module _ (s : ThreadData) (f : FrameData) (some : 0 < s.frames.len) (size : s.fr
       ap seen e.is
       ∙ (λ i. record { own = s.own; size = s.size; enters = s.enters; counter = s.counter; frames = seen_frames m go f g r s.own s.stack.items end e.front are i; answers = answers_seen s.answers })
       ∙ ap (λ fs. on_innermost go (seen fs)) (sym e.was) in
-      ((subst (AreFrames m end) (sym e.is) (are_frames m go f g r end e.front are), is.1, is.2), moved)
+      ((subst (AreFrames m end) (sym e.is) (are_frames m go f g r end e.front are), is.1, is.2, is.3), moved)
 
 -- ---- a call that stands for the same
 

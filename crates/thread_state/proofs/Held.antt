@@ -71,7 +71,7 @@ stored m s is number at b c h same =
     let put = put_at s.own number c.bytes.items 0 stack at b c is.1 h.there h.number_is (same ∙ h.number_is) refl in
     let seen : frames_seen m s.own new (length new) fs ≡ put_in (s.own, number) c.bytes.items (frames_seen m s.own stack (length stack) fs) =
     ap (λ n. frames_seen m s.own new n fs) size ∙ put_frames m s.own (s.own, number) c.bytes.items stack new put (length stack) fs in (
-      (subst (λ n. AreFrames m n fs) (sym size) is.0, blocks_set 0 stack at b c is.1 h.there (sym same), numbers_set s.counter stack at b c h.there (sym same) is.2),
+      (subst (λ n. AreFrames m n fs) (sym size) is.0, blocks_set 0 stack at b c is.1 h.there (sym same), numbers_set s.counter stack at b c h.there (sym same) is.2, is.3),
       (λ i. record { own = s.own; size = s.size; enters = s.enters; counter = s.counter; frames = seen i; answers = answers_seen s.answers }),
     )
 

@@ -73,4 +73,4 @@ made m s t b size f rest is frames own team enters counter answers number bytes 
     let are : AreFrames m (end + 1) fs = are_more m end fs f rest s.own stack seen thread.0 in
     let are_frames : AreFrames m (length t.stack.items) (reverse t.frames.items) = subst (λ n. AreFrames m n (reverse t.frames.items)) (sym long) (subst (λ v. AreFrames m (end + 1) (reverse v.items)) (sym frames) are) in
     let blocks : AreBlocks 0 t.stack.items = subst (AreBlocks 0) (sym is) (blocks_push 0 s.counter stack b thread.1 thread.2 (omega arith) number) in
-    ((are_frames, blocks, λ i d e. subst (λ n. d.number < n) (sym counter) (below_push s.counter stack b thread.2 number i d (ap (λ bs. slice_get bs i) (sym is) ∙ e))), (λ i. record { own = own i; size = team i; enters = enters i; counter = counter i; frames = now i; answers = answers_seen (answers i) }))
+    ((are_frames, blocks, λ i d e. subst (λ n. d.number < n) (sym counter) (below_push s.counter stack b thread.2 number i d (ap (λ bs. slice_get bs i) (sym is) ∙ e)), λ e. thread.3 (sym enters ∙ e)), (λ i. record { own = own i; size = team i; enters = enters i; counter = counter i; frames = now i; answers = answers_seen (answers i) }))

@@ -10,7 +10,7 @@ use Rattle.ir_core.specs.Places.{Name, Place, place_in, register_names, inst_at}
 use Rattle.mem_model.specs.declared.memory.Byte.{Byte}
 use Rattle.mem_model.specs.declared.memory.Word.{Word}
 use Rattle.mem_model.specs.declared.phase.Phase.{Phase}
-use Rattle.mem_model.specs.declared.phase.Phase.TheVariants.{Begins}
+use Rattle.mem_model.specs.declared.phase.Phase.TheVariants.{Begins, Gathered, InRegion, HasLeft}
 use Rattle.thread_state.specs.declared.state.Answers.{Answers as AnswersData}
 use Rattle.thread_state.specs.declared.state.StackBlock.{StackBlock}
 use Rattle.thread_state.specs.declared.state.Frame.{Frame as FrameData}
@@ -18,6 +18,7 @@ use Rattle.thread_state.specs.declared.state.ThreadState.{ThreadState as ThreadD
 use Rattle.mem_model.specs.Thread.{Registers, Code, Spot, Frame, Answers, ThreadState}
 use Rattle.mem_model.specs.Next.{result_of, Callee, CallsEntry, callee_of}
 use Rattle.mem_model.specs.Entries.{runs_loop}
+use Rattle.shapes.specs.Facts.{is_constant}
 
 -- ---- what a state means
 
@@ -87,9 +88,29 @@ abbrev pub IsLongInst : Module → Option Inst → Type 0
 IsLongInst m None = ⊥
 IsLongInst m (Some i) = IsLongKind m i.kind
 
+-- an init call whose mode is that of SPMD kernels
+abbrev pub IsSpmdCall : List Typed → Callee → Type 0
+IsSpmdCall operands (CallsEntry TargetInit) = is_constant 2 (slice_get operands 1) ≡ true
+IsSpmdCall operands _ = ⊥
+
+abbrev pub IsSpmdKind : Module → Kind → Type 0
+IsSpmdKind m (Call tail_word ret callee operands) = IsSpmdCall operands (callee_of m callee)
+IsSpmdKind m _ = ⊥
+
+-- the module has a kernel in SPMD mode
+abbrev pub HasSpmdKernel : Module → Type 0
+HasSpmdKernel m = (p : Place) × (i : Inst) × (inst_at m p ≡ Some i) × IsSpmdKind m i.kind
+
+-- the phases in which a thread enters a region itself
+abbrev pub Occurs : Module → Phase → Type 0
+Occurs m Gathered = HasSpmdKernel m
+Occurs m InRegion = HasSpmdKernel m
+Occurs m HasLeft = HasSpmdKernel m
+Occurs m _ = Unit {0}
+
 -- a call is in the midst of such an instruction alone
 abbrev pub PhaseFits : Module → FrameData → Type 0
-PhaseFits m f = (f.phase ≡ Begins) ⊎ IsLongInst m (inst_at m (place_seen f))
+PhaseFits m f = (f.phase ≡ Begins) ⊎ (IsLongInst m (inst_at m (place_seen f)) × Occurs m f.phase)
 
 -- each call has a value or none for each register, and room for as many words; the blocks of the stack below it stay below
 abbrev pub AreFrames : Module → ℕ → List FrameData → Type 0
@@ -103,7 +124,9 @@ AreBlocks low [] = Unit {0}
 AreBlocks low (b ∷ bs) = (low ≤ b.number) × AreBlocks (b.number + 1) bs
 
 abbrev pub IsThread : Module → ThreadData → Type 0
-IsThread m s = AreFrames m (length s.stack.items) (reverse s.frames.items) × AreBlocks 0 s.stack.items × ((i : ℕ) (b : StackBlock) → slice_get s.stack.items i ≡ Some b → b.number < s.counter)
+IsThread m s =
+    AreFrames m (length s.stack.items) (reverse s.frames.items) × AreBlocks 0 s.stack.items × ((i : ℕ) (b : StackBlock) → slice_get s.stack.items i ≡ Some b → b.number < s.counter)
+    × (s.enters ≡ true → HasSpmdKernel m)
 
 -- a state that stands for this one
 abbrev pub IsSeen : Module → ThreadData → ThreadState → Type 0

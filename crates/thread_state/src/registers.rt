@@ -4,7 +4,7 @@ ghost use Rattle.std.specs.Prelude.{◌≡◌, ℕ, ◌+◌, ◌<◌, ◌^◌, s
 ghost use Rattle.ir_core.specs.declared.module.Module.{Module};
 ghost use Rattle.ir_core.specs.Places.{Name, place_in};
 ghost use Rattle.mem_model.specs.Next.{code_on, code_past};
-ghost use Rattle.thread_state.specs.Seen.{value_at, thread_seen, IsThread, IsSeen, StandsAtLong};
+ghost use Rattle.thread_state.specs.Seen.{value_at, thread_seen, IsThread, IsSeen, StandsAtLong, Occurs};
 ghost use Rattle.thread_state.specs.Moves.{first_registers, names_of, index_of, room_of, Moves, IsPlaceOf, with_register, code_at, frame_assigned, frame_kept, frame_past, frame_at, code_in, frame_in};
 
 use crate::state::{Frame, ThreadState};
@@ -117,7 +117,7 @@ impl ThreadState {
 
     /// Stays at its instruction, which takes several steps, in another phase.
     pub fn stay(&mut self, phase: Phase)
-        ensures { (m : Module) → IsThread m self.old → StandsAtLong m self.old → Moves (code_in phase) m self.old self.new }
+        ensures { (m : Module) → IsThread m self.old → StandsAtLong m self.old → Occurs m phase → Moves (code_in phase) m self.old self.new }
     {
         if let Some(frame) = self.frames.last_mut() {
             frame.phase = phase;

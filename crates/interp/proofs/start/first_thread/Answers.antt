@@ -18,6 +18,6 @@ returns c =
     let names = register_names m k in
     let size = values_size names (length names) (length (params_of (slice_get m.functions k))) (arg_words 0 l.args) values c.in_ok-values.ensures refl in
     let outermost = subst (λ fs. StandsAtCall m (reverse fs)) (sym c.new.ensures.items) tt in
-    let entered = c.enter.ensures m (idle_thread m s c.new.ensures.items c.new-2.ensures.items) size (c.in_ok-room.ensures ∙ c.register_count.ensures) outermost in
+    let entered = c.enter.ensures m (idle_thread m s c.new.ensures.items c.new-2.ensures.items c.requires.spmd) size (c.in_ok-room.ensures ∙ c.register_count.ensures) outermost in
     begun_seen m l s refl c.new.ensures.items k c.enter.new.self values (sym c.in-Some.ensures) c.in_ok-values.ensures
     (entered_ok m k values s c.enter.new.self c.enter.result c.in_ok-enter.field-0 entered c.in_ok-enter.was)

@@ -1,8 +1,9 @@
-use Rattle.std.proofs.Common.{◌≡◌, [], ◌∷◌, ◌++◌, subst, rules}
+use Rattle.std.proofs.Common.{◌≡◌, [], ◌∷◌, ◌++◌, sym, ◌∙◌, subst, rules}
 use Rattle.team_model.specs.Team.{main_thread, first_threads}
 use Rattle.thread_state.specs.Seen.{IsSeen}
 use Rattle.interp.specs.Starts.{AreSeen}
 use Rattle.interp.proofs.Started.{with_main, all_alike}
+use Rattle.interp.proofs.Spmd.{spmd_there}
 use Rattle.interp.proofs.start.first_threads.Goals as goal
 use Rattle.interp.proofs.start.first_threads.Goals.{then-not-spmd+in_ok-main_thread+in_ok-add, else-not-spmd}
 
@@ -24,3 +25,6 @@ returns c =
           let items : new ≡ ss = search rules in
           all_alike m l spmd ss new c.in_ok-threads.ensures (search rules) items
     ])
+
+pub numbered_threads-requires-clause-spmd : goal.numbered_threads-requires-clause-spmd
+numbered_threads-requires-clause-spmd c = λ e. spmd_there c.args.m.now c.args.l.now (sym c.is_spmd-spmd.ensures ∙ e)

@@ -1,9 +1,10 @@
-use Rattle.std.proofs.Common.{Ok, Err, refl, sym, ap, ◌∙◌, subst}
+use Rattle.std.proofs.Common.{Some, Ok, Err, refl, sym, ap, ◌∙◌, subst}
 use Rattle.mem_model.specs.Next.{Next}
 use Rattle.thread_state.specs.Seen.{thread_seen, IsThread}
 use Rattle.interp_local.specs.Steps.{IsOwn}
 use Rattle.interp.specs.Events.{IsPending}
-use Rattle.interp.specs.Teams.{HasAdvanced}
+use Rattle.mem_model.specs.declared.step.Moved.TheVariants.{Trapped}
+use Rattle.interp.specs.Teams.{Advances, HasAdvanced}
 use Rattle.interp.proofs.Advance.{own_went, own_event, own_done, next_trap, local_goes, trap_goes}
 use Rattle.interp.proofs.team.advance.Goals as goal
 
@@ -47,4 +48,5 @@ returns-in-Err-Refused c =
     let m = c.args.m.now in
     let s = c.args.s.now in
     let p = next_trap m s c.next.new.s c.in-Err-Refused.trap c.next.result (c.in-Err-Refused.is ∙ ap Err c.in-Err-Refused.field-0-is) c.next.ensures in
-    trap_goes m c.args.thread c.line_of.result c.args.sh.now s c.next.new.s c.in-Err-Refused.trap c.requires.running p.0 p.1 c.line_of.ensures
+    subst (λ x. Advances m c.args.thread c.args.sh.now (record c.args.sh.now { trapped = Some (record { thread = c.args.thread; line = c.line_of.result; trap = x }) }) s c.next.new.s Trapped) (sym c.in-Err-Refused.trap-is)
+    (trap_goes m c.args.thread c.line_of.result c.args.sh.now s c.next.new.s c.in-Err-Refused.trap c.requires.running p.0 p.1 c.line_of.ensures)

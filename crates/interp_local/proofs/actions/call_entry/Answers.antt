@@ -4,6 +4,8 @@ use Rattle.thread_state.specs.Seen.{answers_seen}
 use Rattle.mem_model.specs.Values.{operand_words}
 use Rattle.interp_local.specs.Operands.{registers}
 use Rattle.interp_local.specs.Actions.{IsAction}
+use Rattle.mem_model.specs.Next.{CallsEntry}
+use Rattle.interp_local.specs.Steps.{IsRun}
 use Rattle.interp_local.proofs.Shares.{other_entry, given_trap, given_words}
 use Rattle.interp_local.proofs.actions.call_entry.Goals as goal
 
@@ -21,7 +23,7 @@ returns-in_err-given-in_default c =
       value =
           is
           ∙ given_trap own a entry (operand_words m r c.args.args.now) e (sym c.in_err-given-in_default.was ∙ c.given.ensures)
-          ∙ sym (other_entry m r own a c.args.args.now entry c.in_default.not-TargetInit c.in_default.not-TargetDeinit);
+          ∙ sym (other_entry m r own a c.args.args.now entry c.in_default.not-TargetInit c.in_default.not-TargetDeinit c.in_default.not-Parallel);
       is = subst (λ result. IfOk result IsAction) (sym is) tt;
     }
 
@@ -37,6 +39,9 @@ returns-in_ok-given-in_default c =
       value =
           c.known.ensures.value
           ∙ given_words own a entry (operand_words m r c.args.args.now) c.in_ok-given-in_default.field-0 (sym c.in_ok-given-in_default.was ∙ c.given.ensures)
-          ∙ sym (other_entry m r own a c.args.args.now entry c.in_default.not-TargetInit c.in_default.not-TargetDeinit);
+          ∙ sym (other_entry m r own a c.args.args.now entry c.in_default.not-TargetInit c.in_default.not-TargetDeinit c.in_default.not-Parallel);
       is = c.known.ensures.is;
     }
+
+pub fork-requires-clause-served : goal.fork-requires-clause-served
+fork-requires-clause-served c = subst (λ r. IsRun c.args.args.now (CallsEntry r)) c.in-Parallel.is c.requires.served

@@ -43,7 +43,7 @@ returns c = λ f rest frames.
     let room : length c.in_ok-room.room ≡ length (register_names m k) = ok_is (λ r. length r ≡ c.register_count-count.result) c.room_for.result c.in_ok-room.room c.room_for.ensures c.in_ok-room.was ∙ count_is in
     let entered = c.enter.ensures m c.requires.thread (values_size (register_names m k) c.register_count-count.result c.len.result bound.0 c.bind.new.values are count_is) room (stands_at m s i c.requires.stands) in
     let body = c.in-Some.ensures in
-    call_goes m s c.enter.new.self i k g bound.0 c.bind.new.values (arguments i.kind) f rest (thread_begins m s c.requires.served c.requires.thread) c.requires.stands frames body.0 body.1
+    call_goes m s c.enter.new.self i k g bound.0 c.bind.new.values (arguments i.kind) f rest (thread_begins s c.requires.begins) c.requires.stands frames body.0 body.1
     (ap (operand_words m (registers m s)) (sym c.arguments-args.ensures) ∙ bound.1)
     (are ∙ (λ j. put_words (c.len.ensures j) bound.0 (replicate (count_is j) None)))
     (entered_ok m k c.bind.new.values s c.enter.new.self c.enter.result c.in_ok-enter.field-0 entered c.in_ok-enter.was)

@@ -1,33 +1,35 @@
-use Rattle.std.proofs.Common.{Ok, Err, sym, ◌∙◌}
-use Rattle.mem_model.specs.Next.{Next}
+use Rattle.std.proofs.Common.{◌≡◌, Some, sym, ◌∙◌, subst}
+use Rattle.mem_model.specs.Next.{Next, next_in}
 use Rattle.thread_state.specs.Seen.{thread_seen}
-use Rattle.interp_local.specs.Actions.{TakesRoom}
-use Rattle.interp_local.specs.Steps.{StandsAtTaking}
-use Rattle.interp_local.proofs.Nexts.{not_empty, at, served, next_decided, refused_trap, stands_taking, tried_as}
+use Rattle.interp_local.specs.Phases.{IsInMidst}
+use Rattle.interp_local.specs.Steps.{phase_of, TakesIn, StandsAtTaking}
+use Rattle.interp_local.proofs.Begins.{midst}
+use Rattle.interp_local.proofs.Nexts.{standing, next_standing, takes_standing, tried_as}
 use Rattle.interp_local.proofs.steps.next.Goals as goal
 
-pub decide-requires-clause-served : goal.decide-requires-clause-served
-decide-requires-clause-served c = served c.args.m.now c.args.s.now c.in-Some.inst.now c.requires.served (sym c.in-Some.ensures.value)
+pub continue_in-requires : goal.continue_in-requires
+continue_in-requires c =
+    let m = c.args.m.now in
+    let s = c.args.s.now in
+    let is : phase_of s ≡ c.phase.result = sym c.phase.ensures in
+    let mid = midst m s c.requires.served c.requires.thread (λ e. c.in_default-phase.not-Begins (c.phase.ensures ∙ e)) in
+    record {
+      thread = c.requires.thread;
+      stands = sym c.in-Some.ensures.value;
+      long = mid.0;
+      within = c.in-Some.ensures.within;
+      phase = is;
+      midst = subst IsInMidst is mid.1;
+    }
 
-pub returns-in-Err : goal.returns-in-Err
-returns-in-Err c =
+pub returns-in_default-phase : goal.returns-in_default-phase
+returns-in_default-phase c =
     let m = c.args.m.now in
     let s = c.args.s.now in
     let i = c.in-Some.inst.now in
-    let is = sym c.in-Some.ensures.value in
-    let a = at m s c.requires.served c.requires.thread (not_empty _ _ _ s.frames.ok.0 c.is_empty.ensures c.if-is_empty.false) in
-    refused_trap (StandsAtTaking m (thread_seen m s)) m s (Next m (thread_seen m s)) c.in-Err.trap c.requires.thread
-    (next_decided m s a i (Err c.in-Err.trap) is (served m s i c.requires.served is) (sym c.in-Err.is ∙ c.decide.ensures.value))
-
-pub returns-in-Ok : goal.returns-in-Ok
-returns-in-Ok c =
-    let m = c.args.m.now in
-    let s = c.args.s.now in
-    let i = c.in-Some.inst.now in
-    let is = sym c.in-Some.ensures.value in
-    let a = at m s c.requires.served c.requires.thread (not_empty _ _ _ s.frames.ok.0 c.is_empty.ensures c.if-is_empty.false) in
-    let decided = sym c.in-Ok.is ∙ c.decide.ensures.value in
-    tried_as (TakesRoom c.in-Ok.action) (StandsAtTaking m (thread_seen m s)) m s c.perform.new.s _ (Next m (thread_seen m s)) c.perform.result
-    (stands_taking m s a i c.in-Ok.action is decided)
-    (next_decided m s a i (Ok c.in-Ok.action) is (served m s i c.requires.served is) decided)
-    (c.perform.ensures a.f a.rest a.frames)
+    let p = c.phase.result in
+    let stands = sym c.in-Some.ensures.value in
+    let is : phase_of s ≡ p = sym c.phase.ensures in
+    let st = standing m s i stands in
+    tried_as (TakesIn m (Some i) p) (StandsAtTaking m (thread_seen m s)) m s c.continue_in.new.s (next_in m (thread_seen m s) st.f st.rest (Some i) p) (Next m (thread_seen m s)) c.continue_in.result
+    (takes_standing m s st i p stands is) (sym (next_standing m s st i p stands is)) (c.continue_in.ensures st.f st.rest st.frames)

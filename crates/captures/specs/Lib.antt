@@ -1,0 +1,4 @@
+pub mod Captured
+pub mod Forks
+pub mod Published
+pub mod Words
