@@ -1,5 +1,5 @@
 -- What a thread does at a call of an entry point of the device runtime (OpenMP 5.1, "Runtime Library Routines"; the entry points of LLVM 16).
-use Rattle.std.specs.Prelude.{ℕ, ◌-◌, ◌^◌, ℤ, pos, ◌==◌, nat_le, List, [], ◌∷◌, Bool, true, false, ◌&&◌, not, Option, Some, None, Result, Ok, Err, if◌then◌else◌}
+use Rattle.std.specs.Prelude.{ℕ, ◌-◌, ◌^◌, ℤ, pos, ◌==◌, nat_lt, nat_le, List, [], ◌∷◌, Bool, true, false, ◌&&◌, not, Option, Some, None, Result, Ok, Err, if◌then◌else◌}
 use Rattle.std.specs.Str.{bytes_eq}
 use Rattle.ir_core.specs.declared.instructions.Value.{Value}
 use Rattle.ir_core.specs.declared.instructions.Value.TheVariants.{Int as IntValue}
@@ -131,10 +131,19 @@ schedules t f rest schedule s increment chunk =
     with_found (put_turns s (turns schedule (record { lower = signed 32 lower; upper = signed 32 upper; increment = increment }) (record { number = t.answers.number; count = t.answers.count }) chunk) (record f { code = code_past f.code } ∷ rest)) (λ fs.
     Local (with_frames t fs))))
 
+-- the turns are stored where all four lie in the stack and the increment isn't 0
+abbrev pub starts_turns : ThreadState → Frame → List Frame → ℕ → Slots → ℕ → ℕ → NextStep
+starts_turns t f rest schedule s increment chunk =
+    in_stack s (if increment == 0 then Trapped Division else schedules t f rest schedule s (signed 32 increment) (signed 32 chunk))
+
+-- numbers of 32 bits, as both are in every checked module
+abbrev pub fits_32 : ℕ → ℕ → Bool
+fits_32 increment chunk = nat_lt increment (2 ^ 32) && nat_lt chunk (2 ^ 32)
+
 abbrev pub starts_loop : ThreadState → Frame → List Frame → List Word → NextStep
 starts_loop t f rest (place ∷ number ∷ Int schedule ∷ Address last ∷ Address lower ∷ Address upper ∷ Address stride ∷ Int increment ∷ Int chunk ∷ []) =
     let s : Slots = record { last = where_is last; lower = where_is lower; upper = where_is upper; stride = where_is stride } in
-    in_stack s (if increment == 0 then Trapped Division else schedules t f rest schedule s (signed 32 increment) (signed 32 chunk))
+    if fits_32 increment chunk then starts_turns t f rest schedule s increment chunk else Trapped Unreachable
 starts_loop t f rest _ = Trapped Unreachable
 
 -- ---- queries

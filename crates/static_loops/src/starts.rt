@@ -184,17 +184,8 @@ fn go_with(s: &mut ThreadState, spots: Spots, turns: Turns) -> Result<(), Trap>
     Ok(())
 }
 
-/// Gives a thread its share of a loop: reads the loop's bounds in the slots, stores the thread's turns there, and goes past the call.
-///
-/// The increment and the chunk are words of 32 bits, and the thread is one of some: their count isn't 0.
-///
-/// # Errors
-///
-/// The first of these tests that fails, and then the state means what it did: `NotStack` where a slot doesn't lie in a stack;
-/// `Division` where the increment is 0; for the bounds `NoBlock` where they lie in no block of the thread's own stack that is
-/// there, `OutOfBlock` where they don't lie whole in one, and `NotNumber` where they are none; and the first two likewise for
-/// what is stored.
-pub fn start_loop(
+// The turns of a loop whose increment and chunk are words of 32 bits.
+fn start_turns(
     s: &mut ThreadState,
     slots: Slots,
     schedule: u64,
@@ -203,7 +194,7 @@ pub fn start_loop(
 ) -> Result<(), Trap>
     requires words { (increment < 2 ^ 32) × (chunk < 2 ^ 32) }
     requires within { index_of s.old + 1 < 2 ^ 64 }
-    ensures { (m : Module) (f : Frame) (rest : List Frame) (place number : Word) → IsThread m s.old → (thread_seen m s.old).frames ≡ f ∷ rest → HasStarted m s.old s.new (entry.starts_loop (thread_seen m s.old) f rest (call_words place number schedule slots increment chunk)) result }
+    ensures { (m : Module) (f : Frame) (rest : List Frame) → IsThread m s.old → (thread_seen m s.old).frames ≡ f ∷ rest → HasStarted m s.old s.new (entry.starts_turns (thread_seen m s.old) f rest schedule (slots_seen slots) increment chunk) result }
 {
     let spots = spots_of(slots)?;
     if increment == 0 {
@@ -216,4 +207,35 @@ pub fn start_loop(
     };
     let turns = turns_of(schedule, range, share, sign_extend(32, chunk));
     go_with(s, spots, turns)
+}
+
+// Whether both are words of 32 bits.
+fn are_words(increment: u64, chunk: u64) -> bool
+    ensures { result ≡ entry.fits_32 increment chunk }
+{
+    increment < 1 << 32 && chunk < 1 << 32
+}
+
+/// Gives a thread its share of a loop: reads the loop's bounds in the slots, stores the thread's turns there, and goes past the call.
+///
+/// # Errors
+///
+/// The first of these tests that fails, and then the state means what it did: `Unreachable` where the increment or the chunk has more
+/// than 32 bits; `NotStack` where a slot doesn't lie in a stack; `Division` where the increment is 0; for the bounds `NoBlock` where
+/// they lie in no block of the thread's own stack that is there, `OutOfBlock` where they don't lie whole in one, and `NotNumber`
+/// where they are none; and the first two likewise for what is stored.
+pub fn start_loop(
+    s: &mut ThreadState,
+    slots: Slots,
+    schedule: u64,
+    increment: u64,
+    chunk: u64,
+) -> Result<(), Trap>
+    requires within { index_of s.old + 1 < 2 ^ 64 }
+    ensures { (m : Module) (f : Frame) (rest : List Frame) (place number : Word) → IsThread m s.old → (thread_seen m s.old).frames ≡ f ∷ rest → HasStarted m s.old s.new (entry.starts_loop (thread_seen m s.old) f rest (call_words place number schedule slots increment chunk)) result }
+{
+    if !are_words(increment, chunk) {
+        return Err(Trap::Unreachable);
+    }
+    start_turns(s, slots, schedule, increment, chunk)
 }
