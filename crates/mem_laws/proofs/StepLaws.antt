@@ -29,7 +29,7 @@ use Rattle.mem_model.specs.declared.memory.Word.TheVariants.{Int, Ptr as Address
 use Rattle.mem_model.specs.declared.memory.Cell.{Cell}
 use Rattle.mem_model.specs.declared.memory.Cell.TheVariants.{Int as IntCell, Ptr as PtrCell}
 use Rattle.mem_model.specs.declared.step.Trap.{Trap}
-use Rattle.mem_model.specs.declared.step.Trap.TheVariants.{Constant, TooLarge, NotStack, Division}
+use Rattle.mem_model.specs.declared.step.Trap.TheVariants.{Constant, TooLarge, NotStack, Division, Unreachable}
 use Rattle.mem_model.specs.Words.{cell_size, number_bytes, word_in}
 use Rattle.mem_model.specs.Memory.{Memory, Shares, access, unless, bytes_at, load_from, store_to, Load, Store, block_limit}
 use Rattle.mem_model.specs.declared.phase.LoopPoint.{LoopPoint}
@@ -42,7 +42,7 @@ use Rattle.mem_model.specs.Values.{register_word, value_word, operand, operand_w
 use Rattle.mem_model.specs.Eval.{signed}
 use Rattle.mem_model.specs.Regions.{Fork, fork_of, words_operand, captured, words_formed, in_region}
 use Rattle.mem_model.specs.Schedules.{Turns}
-use Rattle.mem_model.specs.Entries.{is_worker, runs_loop, forks, put_own, get_own, releases, Slots, int32, truth_word, put_bounds, put_turns, schedules, starts_turns, fits_32, starts_loop, next_known, next_entry, work_word}
+use Rattle.mem_model.specs.Entries.{is_worker, runs_loop, forks, put_own, get_own, releases, Slots, int32, truth_word, put_bounds, put_turns, schedules, fits_32, starts_loop, next_known, next_entry, work_word}
 use Rattle.mem_model.specs.Work.{stores_work, answers_kind, answers_call, answers_in, answers_frames, next_loop}
 use Rattle.mem_model.specs.Update.{Updated, update_number, update_at}
 use Rattle.mem_model.specs.Next.{NextStep, Local, Trapped, with_found, with_number, with_pointer, with_result, with_scalar, with_frames, code_on, code_past, goes_on, goes_past, in_phase, result_of, phi_word, with_phis, enters, to_block, to_label, is_case, case_for, loads, stores, updates, allocates, Callee, CallsEntry, CallsFunction, CallsOther, callee_of, called, next_call, goes_back, back_in, returns, next_kind, next_inst, enters_region, enters_kind, enters_at, next_in, next_frames, Next, resumed_frames, arrived_frames}
@@ -334,7 +334,7 @@ module _ (m : Module) (t : ThreadState) (f : Frame) (rest : List Frame) (h : Non
   keeps_starts : (words : List Word) → Keeps (starts_loop t f rest words)
   keeps_starts (place ∷ number ∷ Int schedule ∷ Address last ∷ Address lower ∷ Address upper ∷ Address stride ∷ Int increment ∷ Int chunk ∷ []) =
       keeps_either (fits_32 increment chunk) _ (Trapped Unreachable)
-        (keeps_either _ _ (Trapped NotStack) (keeps_either (increment == 0) (Trapped Division) _ tt (keeps_schedules schedule _ (signed 32 increment) (signed 32 chunk))) tt) tt
+      (keeps_either _ _ (Trapped NotStack) (keeps_either (increment == 0) (Trapped Division) _ tt (keeps_schedules schedule _ (signed 32 increment) (signed 32 chunk))) tt) tt
   keeps_starts _ = tt
 
   keeps_known : (x : Option Name) (r : Rtl) (words : List Word) → Keeps (next_known t f rest x r words)
