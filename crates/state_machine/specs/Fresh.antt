@@ -1,7 +1,26 @@
 -- Names that nothing has yet.
-use Rattle.std.specs.Prelude.{ℕ, zero, suc, ◌+◌, List, ◌∷◌, ◌++◌, length, decimal, if◌then◌else◌}
-use Rattle.ir_core.specs.Places.{Name}
+use Rattle.std.specs.Prelude.{◌≡◌, ℕ, zero, suc, ◌+◌, List, ◌∷◌, ◌++◌, length, decimal, map, if◌then◌else◌}
+use Rattle.std.specs.List.{flat_map}
+use Rattle.ir_core.specs.declared.module.Block.{Block}
+use Rattle.ir_core.specs.declared.module.Function.{Function}
+use Rattle.ir_core.specs.Places.{Name, param_name, block_results}
 use Rattle.ir_core.specs.Wrappers.{is_in}
+use Rattle.ir_tables.specs.Names.{HasPlaces}
+use Rattle.state_machine.specs.declared.names.Taken.{Taken}
+
+-- ---- the names of a function: those of its parameters, of its blocks and of its registers
+
+abbrev pub block_names : Block → List Name
+block_names b = b.name ∷ block_results b
+
+abbrev pub taken_names : Function → List Name
+taken_names f = map param_name f.params ++ flat_map block_names f.blocks
+
+-- a table of these names, with their number
+abbrev pub IsTaken : List Name → Taken → Type 0
+IsTaken names t = HasPlaces names t.table × (t.count ≡ length names)
+
+-- ---- fresh ones
 
 -- a stem with a number behind a point
 abbrev pub numbered : Name → ℕ → Name

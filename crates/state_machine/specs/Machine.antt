@@ -1,6 +1,6 @@
 -- The machine of a kernel, block by block. A worker waits at the team's barrier, asks for the published work, and leaves the kernel where there is
 -- none. Else it runs the wrapper that was published, if it is in the region, ends the region, and waits for all others before the next turn.
-use Rattle.std.specs.Prelude.{ℕ, zero, suc, ◌+◌, List, [], ◌∷◌, ◌++◌, codes, decimal, map, Option, Some, None, Bool, if◌then◌else◌, ◌==◌, bytes_eq}
+use Rattle.std.specs.Prelude.{ℕ, suc, ◌+◌, List, [], ◌∷◌, ◌++◌, codes, length, map, Option, Some, None, if◌then◌else◌, ◌==◌, bytes_eq}
 use Rattle.ir_core.specs.declared.types.Ty.{Ty}
 use Rattle.ir_core.specs.declared.types.Ty.TheVariants.{Void, Int as IntTy, Ptr as PtrTy}
 use Rattle.ir_core.specs.declared.instructions.Value.{Value}
@@ -16,38 +16,18 @@ use Rattle.ir_core.specs.declared.module.Function.{Function}
 use Rattle.ir_core.specs.declared.rtl.Rtl.{Rtl}
 use Rattle.ir_core.specs.declared.rtl.Rtl.TheVariants.{GenericBarrier, KernelParallel, KernelEndParallel}
 use Rattle.ir_core.specs.EntryPoints.{entry_name}
-use Rattle.ir_core.specs.Given.{local_names}
-use Rattle.ir_core.specs.MachineOff.{inst_off, block_off}
+use Rattle.ir_core.specs.MachineOff.{kind_off, block_off}
 use Rattle.ir_core.specs.Places.{Name}
-use Rattle.state_machine.specs.Fresh.{fresh, numbered}
+use Rattle.state_machine.specs.declared.names.Names.{Names}
+use Rattle.state_machine.specs.declared.plan.Machine.{Machine}
+use Rattle.state_machine.specs.Fresh.{fresh, numbered, taken_names}
 
--- ---- its names
-
--- which of a function's names are taken
-abbrev pub taken_names : Function → List Name
-taken_names f = map (λ n. n.name) (local_names f)
-
--- the labels and the registers; some are there once for each wrapper
-pub record Names : Type 0 where
-  pub begin : Name
-  pub activity : Name
-  pub check : ℕ → Name
-  pub run : ℕ → Name
-  pub none : Name
-  pub end : Name
-  pub wait : Name
-  pub address : Name
-  pub active : Name
-  pub work : Name
-  pub done : Name
-  pub same : ℕ → Name
+-- ---- its names; some are there once for each wrapper
 
 abbrev pub names_beside : List Name → Names
 names_beside taken = record {
   begin = fresh taken (codes "worker.begin");
   activity = fresh taken (codes "worker.activity");
-  check = λ n. fresh taken (numbered (codes "worker.check") n);
-  run = λ n. fresh taken (numbered (codes "worker.run") n);
   none = fresh taken (codes "worker.none");
   end = fresh taken (codes "worker.end");
   wait = fresh taken (codes "worker.wait");
@@ -55,8 +35,11 @@ names_beside taken = record {
   active = fresh taken (codes "worker.active");
   work = fresh taken (codes "worker.fn");
   done = fresh taken (codes "worker.done");
-  same = λ n. fresh taken (numbered (codes "worker.is") n);
 }
+
+-- a name with a number
+abbrev pub numbered_name : List Name → Name → ℕ → Name
+numbered_name taken stem n = fresh taken (numbered stem n)
 
 -- ---- its instructions
 
@@ -79,57 +62,78 @@ calls_entry r ret operands = Call Absent ret (GlobalValue (entry_name r)) operan
 abbrev pub meets : ℕ → Name → Inst
 meets line thread = does line (calls_entry GenericBarrier Void (pointer Null ∷ integer 32 (Local thread) ∷ []))
 
-abbrev pub block : ℕ → Name → List Inst → Block
-block line name insts = record { name = name; insts = insts; line = line }
+abbrev pub branches : ℕ → Name → Name → Name → Inst
+branches line on then_to else_to = does line (CondBr (integer 1 (Local on)) then_to else_to)
+
+abbrev pub goes_to : ℕ → Name → Inst
+goes_to line to = does line (Br to)
+
+-- whether there is work, and which, at the address of the first block
+abbrev pub asks : ℕ → Names → Inst
+asks line names = gives line names.active (calls_entry KernelParallel (IntTy 1) (pointer (Local names.address) ∷ []))
+
+abbrev pub loads_work : ℕ → Names → Inst
+loads_work line names = gives line names.work (Load PtrTy (pointer (Local names.address)) None 0)
+
+abbrev pub is_work : ℕ → Name → Name → Value → Inst
+is_work line register work other = gives line register (ICmp Eq PtrTy (Local work) other)
+
+abbrev pub calls_wrapper : ℕ → Name → Name → Inst
+calls_wrapper line thread wrapper = does line (Call Absent Void (GlobalValue wrapper) (integer 16 (IntValue 0) ∷ integer 32 (Local thread) ∷ []))
 
 -- ---- its blocks, for an init call on a line with this result, and a block for threads without work
 
-module _ (line : ℕ) (names : Names) (thread exit : Name) where
-  -- a worker waits, asks, and looks whether there is work
-  abbrev pub begins : Block
-  begins = block line names.begin (
-      meets line thread
-      ∷ gives line names.active (calls_entry KernelParallel (IntTy 1) (pointer (Local names.address) ∷ []))
-      ∷ gives line names.work (Load PtrTy (pointer (Local names.address)) None 0)
-      ∷ gives line names.done (ICmp Eq PtrTy (Local names.work) Null)
-      ∷ does line (CondBr (integer 1 (Local names.done)) exit names.activity)
-      ∷ [])
+abbrev pub block : ℕ → Name → List Inst → Block
+block line name insts = record { name = name; insts = insts; line = line }
 
-  -- whether it takes part
-  abbrev pub takes_part : Block
-  takes_part = block line names.activity (does line (CondBr (integer 1 (Local names.active)) (names.check 0) names.wait) ∷ [])
+-- a worker waits, asks, and looks whether there is work
+abbrev pub begins : ℕ → Names → Name → Name → Block
+begins line names thread exit =
+    block line names.begin (meets line thread ∷ asks line names ∷ loads_work line names ∷ is_work line names.done names.work Null ∷ branches line names.done exit names.activity ∷ [])
 
-  -- the work is compared with a wrapper, and run
-  abbrev pub compares : ℕ → Name → Name → Block
-  compares n wrapper other = block line (names.check n) (
-      gives line (names.same n) (ICmp Eq PtrTy (Local names.work) (GlobalValue wrapper))
-      ∷ does line (CondBr (integer 1 (Local (names.same n))) (names.run n) other)
-      ∷ [])
+-- whether it takes part
+abbrev pub takes_part : ℕ → Names → Name → Block
+takes_part line names first = block line names.activity (branches line names.active first names.wait ∷ [])
 
-  abbrev pub runs : ℕ → Name → Block
-  runs n wrapper = block line (names.run n) (
-      does line (Call Absent Void (GlobalValue wrapper) (integer 16 (IntValue 0) ∷ integer 32 (Local thread) ∷ []))
-      ∷ does line (Br names.end)
-      ∷ [])
+-- the work is compared with a wrapper
+abbrev pub compares : ℕ → Name → Name → Name → Name → Name → Name → Block
+compares line work check same wrapper run other = block line check (is_work line same work (GlobalValue wrapper) ∷ branches line same run other ∷ [])
 
-  -- one comparison behind the other, from wrapper number n on; no other work is published
-  abbrev pub next_check : ℕ → List Name → Name
-  next_check n [] = names.none
-  next_check n (wrapper ∷ more) = names.check n
+-- and run
+abbrev pub runs : ℕ → Name → Name → Name → Name → Block
+runs line thread run wrapper end = block line run (calls_wrapper line thread wrapper ∷ goes_to line end ∷ [])
 
-  abbrev pub comparisons : ℕ → List Name → List Block
-  comparisons n [] = []
-  comparisons n (wrapper ∷ more) = compares n wrapper (next_check (n + 1) more) ∷ runs n wrapper ∷ comparisons (n + 1) more
+-- no other work is published
+abbrev pub none : ℕ → Names → Block
+none line names = block line names.none (does line Unreachable ∷ [])
 
-  abbrev pub ends : List Block
-  ends =
-      block line names.none (does line Unreachable ∷ [])
-      ∷ block line names.end (does line (calls_entry KernelEndParallel Void []) ∷ does line (Br names.wait) ∷ [])
-      ∷ block line names.wait (meets line thread ∷ does line (Br names.begin) ∷ [])
-      ∷ []
+abbrev pub end : ℕ → Names → Block
+end line names = block line names.end (does line (calls_entry KernelEndParallel Void []) ∷ goes_to line names.wait ∷ [])
 
-  abbrev pub machine : List Name → List Block
-  machine wrappers = begins ∷ takes_part ∷ comparisons 0 wrappers ++ ends
+-- all wait for the others
+abbrev pub waits : ℕ → Names → Name → Block
+waits line names thread = block line names.wait (meets line thread ∷ goes_to line names.begin ∷ [])
+
+-- the comparison of a number; behind the last one of so many there is none
+abbrev pub check_or_none : List Name → Names → ℕ → ℕ → Name
+check_or_none taken names count n = if n == count then names.none else numbered_name taken (codes "worker.check") n
+
+abbrev pub comparison : ℕ → List Name → Names → Name → ℕ → ℕ → Name → List Block
+comparison line taken names thread count n wrapper =
+    compares line names.work (numbered_name taken (codes "worker.check") n) (numbered_name taken (codes "worker.is") n) wrapper (numbered_name taken (codes "worker.run") n) (check_or_none taken names count (n + 1))
+    ∷ runs line thread (numbered_name taken (codes "worker.run") n) wrapper names.end
+    ∷ []
+
+-- one behind the other, from number n on
+abbrev pub comparisons : ℕ → List Name → Names → Name → ℕ → ℕ → List Name → List Block
+comparisons line taken names thread count n [] = []
+comparisons line taken names thread count n (wrapper ∷ more) = comparison line taken names thread count n wrapper ++ comparisons line taken names thread count (suc n) more
+
+abbrev pub machine : List Name → Names → Machine → List Block
+machine taken names a =
+    (begins a.line names a.thread a.exit ∷ takes_part a.line names (check_or_none taken names (length a.wrappers) 0) ∷ [])
+    ++ comparisons a.line taken names a.thread (length a.wrappers) 0 a.wrappers
+    ++ (none a.line names ∷ end a.line names ∷ waits a.line names a.thread ∷ [])
 
 -- ---- the kernel with it
 
@@ -142,16 +146,16 @@ kind_to exit begin (CondBr cond then_to else_to) = CondBr cond (target_to exit b
 kind_to exit begin kind = kind
 
 abbrev pub inst_to : Name → Name → Inst → Inst
-inst_to exit begin i = record i { kind = kind_to exit begin i.kind }
+inst_to exit begin i = record i { kind = kind_to exit begin (kind_off i.kind) }
 
 -- the first block: room for the work in front, the flag of the init call 0, and the branch to the machine
 abbrev pub entry_with : ℕ → Names → Name → Block → Block
-entry_with line names exit b = record b { insts = gives line names.address (Alloca PtrTy 0) ∷ map (λ i. inst_to exit names.begin (inst_off i)) b.insts }
+entry_with line names exit b = record b { insts = gives line names.address (Alloca PtrTy 0) ∷ map (inst_to exit names.begin) b.insts }
 
-abbrev pub blocks_with : ℕ → Names → Name → Name → List Name → List Block → List Block
-blocks_with line names thread exit wrappers [] = []
-blocks_with line names thread exit wrappers (b ∷ bs) = entry_with line names exit b ∷ map block_off bs ++ machine line names thread exit wrappers
+abbrev pub blocks_with : List Name → Machine → List Block → List Block
+blocks_with taken a [] = []
+blocks_with taken a (b ∷ bs) = entry_with a.line (names_beside taken) a.exit b ∷ map block_off bs ++ machine taken (names_beside taken) a
 
--- a kernel with the machine for these wrappers, where its init call on a line gives the thread and its test sends workers to an exit
-abbrev pub kernel_with : ℕ → Name → Name → List Name → Function → Function
-kernel_with line thread exit wrappers f = record f { blocks = blocks_with line (names_beside (taken_names f)) thread exit wrappers f.blocks }
+-- a kernel with this machine
+abbrev pub kernel_with : Machine → Function → Function
+kernel_with a f = record f { blocks = blocks_with (taken_names f) a f.blocks }

@@ -58,7 +58,7 @@ fn call_off(
     })
 }
 
-fn kind_off(alloc: Global, kind: &Kind) -> Result<Kind, OutOfMemory>
+pub fn kind_off(alloc: Global, kind: &Kind) -> Result<Kind, OutOfMemory>
     ensures { IfOk result (λ k. k ≡ kind_off kind.now) }
 {
     match kind {
@@ -92,7 +92,7 @@ fn insts_off(alloc: Global, insts: &[Inst]) -> Result<List<Inst>, OutOfMemory>
     Ok(out)
 }
 
-fn block_off(alloc: Global, block: &Block) -> Result<Block, OutOfMemory>
+pub fn block_off(alloc: Global, block: &Block) -> Result<Block, OutOfMemory>
     ensures { IfOk result (λ b. b ≡ block_off block.now) }
 {
     Ok(Block {
@@ -112,7 +112,7 @@ fn blocks_off(alloc: Global, blocks: &[Block]) -> Result<List<Block>, OutOfMemor
     Ok(out)
 }
 
-fn function_off(alloc: Global, f: &Function) -> Result<Function, OutOfMemory>
+pub fn function_off(alloc: Global, f: &Function) -> Result<Function, OutOfMemory>
     ensures { IfOk result (λ g. g ≡ function_off f.now) }
 {
     Ok(Function {
