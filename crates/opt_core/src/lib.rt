@@ -1,6 +1,7 @@
 //! The optimiser's top calls.
 #![tactic(auto)]
 
+mod machine_off;
 mod optimiser;
 mod remarks;
 mod replay_reply;

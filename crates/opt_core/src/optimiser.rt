@@ -4,7 +4,7 @@ ghost use Rattle.ir_core.specs.FirstForm.{HasFirstForm};
 ghost use Rattle.refine_laws.specs.Refines.{RefinesSource};
 ghost use Rattle.opt_core.specs.Optimised.{IsOptimisedModule};
 
-use state_machine::machine_off;
+use crate::machine_off::machine_off;
 use crate::remarks::{init_lines, modes_at, remarks_at};
 use checked_modules::{Checked, OutModule};
 use ir_core::{List, Mode, OutOfMemory, Remark};

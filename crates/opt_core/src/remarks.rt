@@ -5,7 +5,7 @@ ghost use Rattle.ir_core.specs.MachineOff.{kind_init_lines, inst_init_lines, blo
 ghost use Rattle.ir_core.specs.Notes.{remark_word, remark_start, remark_end, remark_text, remarks_text, machine_removed};
 ghost use Rattle.opt_core.specs.Optimised.{Modes, empty_mode};
 
-use state_machine::calls_init;
+use crate::machine_off::calls_init;
 use ir_core::{Block, Function, Inst, Kind, List, Mode, Module, Name, OutOfMemory, Remark};
 use itoa::Buffer;
 use std::alloc::Global;

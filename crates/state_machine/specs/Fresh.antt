@@ -1,5 +1,5 @@
 -- Names that nothing has yet.
-use Rattle.std.specs.Prelude.{◌≡◌, ℕ, zero, suc, ◌+◌, List, ◌∷◌, ◌++◌, length, decimal, map, if◌then◌else◌}
+use Rattle.std.specs.Prelude.{◌≡◌, ℕ, zero, suc, List, ◌∷◌, ◌++◌, length, decimal, map, if◌then◌else◌}
 use Rattle.std.specs.List.{flat_map}
 use Rattle.ir_core.specs.declared.module.Block.{Block}
 use Rattle.ir_core.specs.declared.module.Function.{Function}
@@ -29,7 +29,7 @@ numbered stem n = stem ++ 46 ∷ decimal n
 -- the least number from n on, of so many and one more, with which the stem isn't among these names
 abbrev pub least_free : List Name → Name → ℕ → ℕ → ℕ
 least_free taken stem n zero = n
-least_free taken stem n (suc more) = if is_in taken (numbered stem n) then least_free taken stem (n + 1) more else n
+least_free taken stem n (suc more) = if is_in taken (numbered stem n) then least_free taken stem (suc n) more else n
 
 -- the stem, or where that is taken the stem with the least free number from 1 on
 abbrev pub fresh : List Name → Name → Name

@@ -1,3 +1,4 @@
 pub mod Fresh
 pub mod Machine
 pub mod Modules
+pub mod Numbered

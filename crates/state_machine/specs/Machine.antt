@@ -1,6 +1,6 @@
 -- The machine of a kernel, block by block. A worker waits at the team's barrier, asks for the published work, and leaves the kernel where there is
 -- none. Else it runs the wrapper that was published, if it is in the region, ends the region, and waits for all others before the next turn.
-use Rattle.std.specs.Prelude.{ℕ, suc, ◌+◌, List, [], ◌∷◌, ◌++◌, codes, length, map, Option, Some, None, if◌then◌else◌, ◌==◌, bytes_eq}
+use Rattle.std.specs.Prelude.{ℕ, ◌+◌, List, [], ◌∷◌, ◌++◌, codes, length, map, Some, None, if◌then◌else◌, ◌==◌, bytes_eq}
 use Rattle.ir_core.specs.declared.types.Ty.{Ty}
 use Rattle.ir_core.specs.declared.types.Ty.TheVariants.{Void, Int as IntTy, Ptr as PtrTy}
 use Rattle.ir_core.specs.declared.instructions.Value.{Value}
@@ -21,6 +21,7 @@ use Rattle.ir_core.specs.Places.{Name}
 use Rattle.state_machine.specs.declared.names.Names.{Names}
 use Rattle.state_machine.specs.declared.plan.Machine.{Machine}
 use Rattle.state_machine.specs.Fresh.{fresh, numbered, taken_names}
+use Rattle.state_machine.specs.Numbered.{flat_from}
 
 -- ---- its names; some are there once for each wrapper
 
@@ -124,15 +125,14 @@ comparison line taken names thread count n wrapper =
     ∷ runs line thread (numbered_name taken (codes "worker.run") n) wrapper names.end
     ∷ []
 
--- one behind the other, from number n on
-abbrev pub comparisons : ℕ → List Name → Names → Name → ℕ → ℕ → List Name → List Block
-comparisons line taken names thread count n [] = []
-comparisons line taken names thread count n (wrapper ∷ more) = comparison line taken names thread count n wrapper ++ comparisons line taken names thread count (suc n) more
+-- one behind the other
+abbrev pub comparisons : ℕ → List Name → Names → Name → ℕ → List Name → List Block
+comparisons line taken names thread count wrappers = flat_from (comparison line taken names thread count) 0 wrappers
 
 abbrev pub machine : List Name → Names → Machine → List Block
 machine taken names a =
     (begins a.line names a.thread a.exit ∷ takes_part a.line names (check_or_none taken names (length a.wrappers) 0) ∷ [])
-    ++ comparisons a.line taken names a.thread (length a.wrappers) 0 a.wrappers
+    ++ comparisons a.line taken names a.thread (length a.wrappers) a.wrappers
     ++ (none a.line names ∷ end a.line names ∷ waits a.line names a.thread ∷ [])
 
 -- ---- the kernel with it

@@ -233,7 +233,7 @@ fn add_comparisons(
     names: &Names,
     machine: &Machine,
 ) -> Result<(), OutOfMemory>
-    ensures { (all : List NameData) → IsTaken all taken.now → OnOk result (blocks.new ≡ blocks.old ++ spec.comparisons machine.now.line all names.now machine.now.thread (length machine.now.wrappers) 0 machine.now.wrappers) }
+    ensures { (all : List NameData) → IsTaken all taken.now → OnOk result (blocks.new ≡ blocks.old ++ spec.comparisons machine.now.line all names.now machine.now.thread (length machine.now.wrappers) machine.now.wrappers) }
 {
     for (n, wrapper) in machine.wrappers.as_slice().iter().enumerate() {
         add_comparison(blocks, alloc, taken, names, machine, n, wrapper)?;

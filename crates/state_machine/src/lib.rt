@@ -11,5 +11,4 @@ mod off;
 mod plan;
 
 pub use modules::with_machines;
-pub use off::{calls_init, machine_off};
 pub use plan::Machine;

@@ -1,9 +1,9 @@
 //! Modules in which some kernels have their machines written out.
-ghost use Rattle.std.specs.Prelude.{◌≡◌, ◌++◌, IfOk, OnOk, map, slice_get};
+ghost use Rattle.std.specs.Prelude.{◌≡◌, ◌++◌, IfOk, OnOk, Some, map, slice_get};
 ghost use Rattle.std.specs.List.{list_any};
-ghost use Rattle.std.specs.Option.{option_copied};
 ghost use Rattle.ir_core.specs.EntryPoints.{scalar_type};
 ghost use Rattle.state_machine.specs.Modules as spec;
+ghost use Rattle.state_machine.specs.Numbered.{flat_from};
 
 use crate::kernels::kernel_with;
 use crate::off::function_off;
@@ -12,16 +12,26 @@ use ir_core::{Copies, Function, List, Module, Name, OutOfMemory, Param, Rtl, Sca
 use itoa::Buffer;
 use std::alloc::Global;
 
-fn changed(
-    alloc: Global,
-    plan: Option<&Option<Machine>>,
-    f: &Function,
-) -> Result<Function, OutOfMemory>
-    ensures { IfOk result (λ g. g ≡ spec.changed (option_copied plan.entry) f.now) }
+fn changed_by(alloc: Global, plan: &Option<Machine>, f: &Function) -> Result<Function, OutOfMemory>
+    ensures { IfOk result (λ g. g ≡ spec.changed (Some plan.now) f.now) }
 {
     match plan {
-        Some(Some(machine)) => kernel_with(alloc, machine, f),
-        _ => function_off(alloc, f),
+        None => function_off(alloc, f),
+        Some(machine) => kernel_with(alloc, machine, f),
+    }
+}
+
+fn changed(
+    alloc: Global,
+    plans: &[Option<Machine>],
+    at: usize,
+    f: &Function,
+) -> Result<Function, OutOfMemory>
+    ensures { IfOk result (λ g. g ≡ spec.changed (slice_get plans.now at) f.now) }
+{
+    match plans.get(at) {
+        None => function_off(alloc, f),
+        Some(plan) => changed_by(alloc, plan, f),
     }
 }
 
@@ -30,11 +40,11 @@ fn all_changed(
     plans: &[Option<Machine>],
     functions: &[Function],
 ) -> Result<List<Function>, OutOfMemory>
-    ensures { IfOk result (λ fs. fs ≡ spec.changed_from plans.now 0 functions.now) }
+    ensures { IfOk result (λ fs. fs ≡ flat_from (spec.changed_at plans.now) 0 functions.now) }
 {
     let mut out = List::new(alloc);
     for (at, f) in functions.iter().enumerate() {
-        out.push(changed(alloc, plans.get(at), f)?)?;
+        out.push(changed(alloc, plans, at, f)?)?;
     }
     Ok(out)
 }
@@ -54,16 +64,22 @@ fn type_of(scalar: Scalar) -> Ty
     }
 }
 
+fn numbered_param(alloc: Global, n: usize, scalar: &Scalar) -> Result<Param, OutOfMemory>
+    ensures { IfOk result (λ p. p ≡ spec.numbered n (scalar_type scalar.now)) }
+{
+    let mut digits = Buffer::new();
+    Ok(Param {
+        name: Name::from_slice(alloc, digits.format(n).as_bytes())?,
+        ty: type_of(*scalar),
+    })
+}
+
 fn numbered_params(alloc: Global, types: &[Scalar]) -> Result<List<Param>, OutOfMemory>
-    ensures { IfOk result (λ ps. ps ≡ spec.numbered_params 0 (map scalar_type types.now)) }
+    ensures { IfOk result (λ ps. ps ≡ flat_from spec.numbered_param 0 (map scalar_type types.now)) }
 {
     let mut out = List::new(alloc);
     for (at, scalar) in types.iter().enumerate() {
-        let mut digits = Buffer::new();
-        out.push(Param {
-            name: Name::from_slice(alloc, digits.format(at).as_bytes())?,
-            ty: type_of(*scalar),
-        })?;
+        out.push(numbered_param(alloc, at, scalar)?)?;
     }
     Ok(out)
 }

@@ -107,7 +107,7 @@ pub fn numbered(alloc: Global, stem: &[u8], n: usize) -> Result<Name, OutOfMemor
     Ok(Name::from_slice(alloc, bytes.as_slice())?)
 }
 
-// The stem with the least free number from n on, of so many and one more.
+// The stem with the least number from 1 on with which it is free.
 fn least_free(alloc: Global, taken: &Taken, stem: &[u8]) -> Result<Name, OutOfMemory>
     ensures { (names : List NameData) → IsTaken names taken.now → IfOk result (λ x. x ≡ numbered stem.now (least_free names stem.now 1 (length names))) }
 {
@@ -117,7 +117,9 @@ fn least_free(alloc: Global, taken: &Taken, stem: &[u8]) -> Result<Name, OutOfMe
             return Ok(name);
         }
     }
-    numbered(alloc, stem, taken.count + 1)
+    // There is no room for so many names that this number doesn't fit.
+    let last = taken.count.checked_add(1).ok_or(OutOfMemory)?;
+    numbered(alloc, stem, last)
 }
 
 /// The stem, or where that is taken the stem with a point and the least free number from 1 on.

@@ -1,15 +1,11 @@
-//! Switches the unused state machine of a kernel off: its init call gets `i1 false`, and nothing else changes.
-//! (LLVM's documentation of OpenMPOpt, remark OMP130.)
+//! Functions whose kernels have the runtime's state machine switched off: an init call gets `i1 false`, and nothing else changes.
 ghost use Rattle.std.specs.Prelude.{◌≡◌, map, IfOk};
-ghost use Rattle.ir_core.specs.FirstForm.{HasFirstForm};
-ghost use Rattle.ir_core.specs.MachineOff.{calls_init, operands_off, kind_off, inst_off, block_off, function_off, machine_off};
+ghost use Rattle.ir_core.specs.MachineOff.{calls_init, operands_off, kind_off, inst_off, block_off, function_off};
 
-use ir_core::{
-    Block, Copies, Function, Inst, Kind, List, Module, OutOfMemory, TailWord, Ty, Typed, Value,
-};
+use ir_core::{Block, Copies, Function, Inst, Kind, List, OutOfMemory, TailWord, Ty, Typed, Value};
 use std::alloc::Global;
 
-pub fn calls_init(callee: &Value) -> bool
+fn calls_init(callee: &Value) -> bool
     ensures { result ≡ calls_init callee.now }
 {
     match callee {
@@ -123,28 +119,5 @@ pub fn function_off(alloc: Global, f: &Function) -> Result<Function, OutOfMemory
         groups: f.groups.copy(alloc)?,
         blocks: blocks_off(alloc, f.blocks.as_slice())?,
         line: f.line,
-    })
-}
-
-fn functions_off(alloc: Global, functions: &[Function]) -> Result<List<Function>, OutOfMemory>
-    ensures { IfOk result (λ fs. fs ≡ map function_off functions.now) }
-{
-    let mut out = List::new(alloc);
-    for f in functions {
-        out.push(function_off(alloc, f)?)?;
-    }
-    Ok(out)
-}
-
-/// The module with each kernel's machine off.
-pub fn machine_off(alloc: Global, m: &Module) -> Result<Module, OutOfMemory>
-    ensures { IfOk result (λ o. o ≡ machine_off m.now) }
-{
-    Ok(Module {
-        prelude: m.prelude.copy(alloc)?,
-        types: m.types.copy(alloc)?,
-        globals: m.globals.copy(alloc)?,
-        functions: functions_off(alloc, m.functions.as_slice())?,
-        tail: m.tail.copy(alloc)?,
     })
 }
