@@ -201,6 +201,26 @@ module _ (m : Module) (t : ThreadState) (f : Frame) (rest : List Frame) (x : Opt
   releases_by (Address p ∷ Int n ∷ c ∷ more) = refl
   releases_by (Address p ∷ Address q ∷ c ∷ more) = refl
 
+  turns_by : (words : List Word) → D (turns_action words) ≡ starts_loop t f rest words
+  turns_by ([]) = refl
+  turns_by (a ∷ []) = refl
+  turns_by (a ∷ b ∷ []) = refl
+  turns_by (a ∷ b ∷ Address z ∷ more) = refl
+  turns_by (a ∷ b ∷ Int i ∷ []) = refl
+  turns_by (a ∷ b ∷ Int i ∷ Int z ∷ more) = refl
+  turns_by (a ∷ b ∷ Int i ∷ Address p ∷ []) = refl
+  turns_by (a ∷ b ∷ Int i ∷ Address p ∷ Int z ∷ more) = refl
+  turns_by (a ∷ b ∷ Int i ∷ Address p ∷ Address q ∷ []) = refl
+  turns_by (a ∷ b ∷ Int i ∷ Address p ∷ Address q ∷ Int z ∷ more) = refl
+  turns_by (a ∷ b ∷ Int i ∷ Address p ∷ Address q ∷ Address u ∷ []) = refl
+  turns_by (a ∷ b ∷ Int i ∷ Address p ∷ Address q ∷ Address u ∷ Int z ∷ more) = refl
+  turns_by (a ∷ b ∷ Int i ∷ Address p ∷ Address q ∷ Address u ∷ Address v ∷ []) = refl
+  turns_by (a ∷ b ∷ Int i ∷ Address p ∷ Address q ∷ Address u ∷ Address v ∷ Address z ∷ more) = refl
+  turns_by (a ∷ b ∷ Int i ∷ Address p ∷ Address q ∷ Address u ∷ Address v ∷ Int j ∷ []) = refl
+  turns_by (a ∷ b ∷ Int i ∷ Address p ∷ Address q ∷ Address u ∷ Address v ∷ Int j ∷ Address z ∷ more) = refl
+  turns_by (a ∷ b ∷ Int i ∷ Address p ∷ Address q ∷ Address u ∷ Address v ∷ Int j ∷ Int k ∷ []) = refl
+  turns_by (a ∷ b ∷ Int i ∷ Address p ∷ Address q ∷ Address u ∷ Address v ∷ Int j ∷ Int k ∷ z ∷ more) = refl
+
   known_by : (r : Rtl) → ((words : List Word) → D (known_action t.own t.answers r (words_given words)) ≡ next_known t f rest x r words) → D (and_then (operand_words m f.code.registers args) (λ words. known_action t.own t.answers r (words_given words))) ≡ with_found (operand_words m f.code.registers args) (next_known t f rest x r)
   known_by r h = d_then (operand_words m f.code.registers args) (λ words. known_action t.own t.answers r (words_given words)) (next_known t f rest x r) h
 
@@ -210,7 +230,7 @@ module _ (m : Module) (t : ThreadState) (f : Frame) (rest : List Frame) (x : Opt
   entry_by Parallel is = d_then (operand_words m f.code.registers args) (fork_action (fork_of m args)) (λ words. with_result (fork_of m args) (forks t f rest words)) (fork_by (fork_of m args))
   entry_by AllocShared is = known_by AllocShared makes_by
   entry_by FreeShared is = known_by FreeShared releases_by
-  entry_by ForStaticInit is = absurd is
+  entry_by ForStaticInit is = d_then (operand_words m f.code.registers args) turns_action (starts_loop t f rest) turns_by
   entry_by Print is = known_by Print prints_by
   entry_by KernelParallel is = known_by KernelParallel (λ words. refl)
   entry_by GetSharedVariables is = known_by GetSharedVariables shares_by

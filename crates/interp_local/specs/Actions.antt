@@ -8,7 +8,7 @@ use Rattle.ir_core.specs.declared.instructions.Kind.{Kind}
 use Rattle.ir_core.specs.declared.instructions.Kind.TheVariants.{Bin, ICmp, Cast, Select, Alloca, Load as LoadInst, Store as StoreInst, Rmw, Gep, Fence, Call, Br, CondBr, Switch, Ret}
 use Rattle.ir_core.specs.declared.module.Module.{Module}
 use Rattle.ir_core.specs.declared.rtl.Rtl.{Rtl}
-use Rattle.ir_core.specs.declared.rtl.Rtl.TheVariants.{TargetInit, TargetDeinit, Parallel, GetSharedVariables, Barrier as RegionBarrier, GlobalThreadNum, ThreadNum, NumThreads, Level, ParallelLevel, InParallel, IsSpmdExecMode, ForStaticFini, Print, KernelEndParallel, SpmdBarrier, GenericBarrier, HardwareThreadId, AllocShared, FreeShared, KernelParallel}
+use Rattle.ir_core.specs.declared.rtl.Rtl.TheVariants.{TargetInit, TargetDeinit, Parallel, GetSharedVariables, Barrier as RegionBarrier, GlobalThreadNum, ThreadNum, NumThreads, Level, ParallelLevel, InParallel, IsSpmdExecMode, ForStaticInit, ForStaticFini, Print, KernelEndParallel, SpmdBarrier, GenericBarrier, HardwareThreadId, AllocShared, FreeShared, KernelParallel}
 use Rattle.ir_core.specs.FirstForm.{is_width}
 use Rattle.ir_core.specs.Places.{labels, place_in}
 use Rattle.ir_core.specs.Layout.{Size}
@@ -22,7 +22,7 @@ use Rattle.mem_model.specs.declared.step.Trap.TheVariants.{Unreachable, TooLarge
 use Rattle.mem_model.specs.Answers.{IsCell, IsOf}
 use Rattle.mem_model.specs.Thread.{Name, Registers, Answers, Frame, ThreadState, where_is, outside_region}
 use Rattle.mem_model.specs.Values.{width_of, value_word, operand, and_then, operand_words}
-use Rattle.mem_model.specs.Entries.{one_if, is_parallel, runs_loop, gets_shared, releases}
+use Rattle.mem_model.specs.Entries.{one_if, is_parallel, runs_loop, gets_shared, releases, starts_loop}
 use Rattle.mem_model.specs.declared.phase.Phase.TheVariants.{Loops, Gathered}
 use Rattle.mem_model.specs.declared.phase.LoopPoint.TheVariants.{Sleeps}
 use Rattle.mem_model.specs.Next.{NextStep, Local, Pending, Trapped, Deinit as DeinitEvent, Does, Prints as PrintsNumber, Arrives as ArrivesAt, Forks as ForksEvent, with_found, goes_on, goes_past, goes_in, loads, stores, updates, allocates, case_for, to_block, Callee, CallsEntry, CallsFunction, CallsOther, defined_at, callee_of, next_call, returns, Makes as MakesBlock, AsksForWork}
@@ -30,9 +30,10 @@ use Rattle.thread_state.specs.declared.state.Frame.{Frame as FrameData}
 use Rattle.thread_state.specs.declared.state.ThreadState.{ThreadState as ThreadData}
 use Rattle.mem_model.specs.Regions.{Fork, fork_of, words_operand, captured}
 use Rattle.captures.specs.Forks.{fork_data}
+use Rattle.static_loops.specs.Starts.{call_words}
 use Rattle.interp_local.specs.declared.actions.Change.{Change}
 use Rattle.interp_local.specs.declared.actions.Action.{Action}
-use Rattle.interp_local.specs.declared.actions.Action.TheVariants.{Gives, Passes, Loads, Stores, Updates, Allocates, Shares, Outside, Arrives, Prints, Deinit, StartsLoop, Forks, Calls, Jumps, Returns, Makes, Releases, Asks}
+use Rattle.interp_local.specs.declared.actions.Action.TheVariants.{Gives, Passes, Loads, Stores, Updates, Allocates, Shares, Outside, Arrives, Prints, Deinit, StartsLoop, Forks, Calls, Jumps, Returns, Makes, Releases, Asks, TakesTurns}
 use Rattle.interp_local.specs.declared.actions.Words.{Words}
 use Rattle.interp_local.specs.declared.actions.Words.TheVariants.{Nothing, One, Two, More}
 use Rattle.interp_local.specs.Operands.{number, pointer, cell, or_unreachable, binary, comparison, conversion, selection, element}
@@ -97,11 +98,18 @@ abbrev pub fork_action : Option Fork → List Word → Result Action Trap
 fork_action None words = Err Unreachable
 fork_action (Some fork) words = Ok (Forks (fork_data fork) (words_operand words))
 
+-- a thread takes its share of the turns of the loop that the words of the operands name
+abbrev pub turns_action : List Word → Result Action Trap
+turns_action (place ∷ number ∷ Int schedule ∷ Address last ∷ Address lower ∷ Address upper ∷ Address stride ∷ Int increment ∷ Int chunk ∷ []) =
+    Ok (TakesTurns (record { slots = record { last = last; lower = lower; upper = upper; stride = stride }; schedule = schedule; increment = increment; chunk = chunk }))
+turns_action words = Err Unreachable
+
 -- init and deinit look at no register
 abbrev pub entry_action : Module → Registers → ℕ → Answers → List Typed → Rtl → Result Action Trap
 entry_action m r own a operands TargetInit = Ok (init_action a operands)
 entry_action m r own a operands TargetDeinit = Ok Deinit
 entry_action m r own a operands Parallel = and_then (operand_words m r operands) (fork_action (fork_of m operands))
+entry_action m r own a operands ForStaticInit = and_then (operand_words m r operands) turns_action
 entry_action m r own a operands entry = and_then (operand_words m r operands) (λ words. known_action own a entry (words_given words))
 
 abbrev pub call_action : Module → Registers → ℕ → Answers → List Typed → Callee → Result Action Trap
@@ -206,6 +214,7 @@ acted m t f rest x args Deinit = Pending DeinitEvent
 acted m t f rest x args StartsLoop = Local (goes_in t f rest (Loops Sleeps))
 acted m t f rest x args (Forks fork words) =
     if t.enters then Pending (ArrivesAt TeamBarrier (Some Gathered)) else with_found (captured (f ∷ rest) words fork.count) (λ ps. Pending (ForksEvent fork.function fork.wrapper ps))
+acted m t f rest x args (TakesTurns turns) = starts_loop t f rest (call_words (Int 0) (Int 0) turns.schedule turns.slots turns.increment turns.chunk)
 acted m t f rest x args (Calls k) = next_call m t f rest x args (defined_at m (Some k))
 acted m t f rest x args (Jumps b) = to_block m t f rest (Some b)
 acted m t f rest x args (Returns word) = returns t rest f.code.back word

@@ -2,7 +2,7 @@
 use Rattle.std.specs.Prelude.{◌≡◌, ◌≤◌, ℕ, zero, slice_get, List, [], ◌∷◌, reverse, false, Option, Some, None, Result, Ok, Err}
 use Rattle.ir_core.specs.declared.instructions.Inst.{Inst}
 use Rattle.ir_core.specs.declared.instructions.Typed.{Typed}
-use Rattle.ir_core.specs.declared.rtl.Rtl.TheVariants.{TargetInit, Parallel, ForStaticInit}
+use Rattle.ir_core.specs.declared.rtl.Rtl.TheVariants.{TargetInit, Parallel}
 use Rattle.ir_core.specs.declared.instructions.Kind.{Kind}
 use Rattle.ir_core.specs.declared.instructions.Kind.TheVariants.{Alloca, Gep, Call}
 use Rattle.ir_core.specs.declared.module.Module.{Module}
@@ -115,11 +115,10 @@ IsNext m old new result = IsTried (StandsAtTaking m (thread_seen m old)) m old n
 abbrev pub FewCaptured : List Typed → Type 0
 FewCaptured operands = (v : Typed) (n : ℕ) → slice_get operands 8 ≡ Some v → number_given v.value ≡ Some n → n ≤ 64
 
--- the entry points that are run by now: not those of kernels in SPMD mode, and not static schedules
+-- the entry points that are run by now: not those of kernels in SPMD mode
 abbrev pub IsRun : List Typed → Callee → Type 0
 IsRun operands (CallsEntry TargetInit) = is_constant 2 (slice_get operands 1) ≡ false
 IsRun operands (CallsEntry Parallel) = FewCaptured operands
-IsRun operands (CallsEntry ForStaticInit) = ⊥
 IsRun operands _ = Unit {0}
 
 -- the type of a new block of the stack has a size, and so has the one that a getelementptr goes through; a call is of a function or of

@@ -15,6 +15,7 @@ ghost use Rattle.interp_local.specs.Steps.{FewCaptured, IsRun, IsServed};
 ghost use Rattle.interp_local.specs.Actions.{IsAction, gives, action_of, words_given, known_action, init_action, fork_action, entry_action, call_action, jump, function_of, load_action, store_action, update_action, block_action, branch_action, switch_action, return_action};
 
 use crate::addresses::element;
+use crate::turns::{StaticLoop, turns};
 use crate::heap::{make, release};
 use crate::operands::{
     binary, cell, comparison, conversion, number, operand, pointer, selection, value_word, width_of,
@@ -65,6 +66,8 @@ pub enum Action {
     StartsLoop,
     /// Forks, with the word that says where the captured words stand.
     Forks(Fork, Option<Word>),
+    /// Takes its share of a loop's turns.
+    TakesTurns(StaticLoop),
     /// Calls the function at this place of the module.
     Calls(usize),
     /// Goes to the block at this place of the function.
@@ -316,6 +319,7 @@ fn call_entry(m: &Indexed, s: &ThreadState, entry: Rtl, args: &[Typed]) -> Resul
         Rtl::TargetInit => Ok(init(s.answers, args)),
         Rtl::TargetDeinit => Ok(Action::Deinit),
         Rtl::Parallel => fork(m, s, args),
+        Rtl::ForStaticInit => turns(m, s, args),
         _ => known(s, entry, given(m, s, args)?),
     }
 }

@@ -14,6 +14,7 @@ mod phases;
 mod phis;
 mod run;
 mod steps;
+mod turns;
 mod work;
 
 pub use actions::{Action, Change, decide};

@@ -21,9 +21,11 @@ use crate::heap::look_release;
 use crate::operands::register;
 use crate::phases::{continue_in, end_region, phase};
 use crate::phis::jump;
+use crate::turns::StaticLoop;
 use captures::{Fork, captured};
 use ir_core::{Inst, Or};
 use ir_tables::Indexed;
+use static_loops::start_loop;
 use mem_model::{BlockName, Cell, LoopPoint, Phase, Ptr, Trap, Word, updated};
 use std::alloc::Global;
 use thread_state::ThreadState;
@@ -200,6 +202,15 @@ fn share(s: &mut ThreadState, at: Ptr) -> Stepped
     }
 }
 
+/// Takes the thread's share of a loop's turns.
+fn take_turns(s: &mut ThreadState, turns: StaticLoop) -> Stepped
+    requires within { index_of s.old + 1 < 2 ^ 64 }
+    ensures { (m : Module) (f : Frame) (rest : List Frame) (x : Option Name) (args : List Typed) → IsThread m s.old → (thread_seen m s.old).frames ≡ f ∷ rest → IsOwn m s.old s.new (acted m (thread_seen m s.old) f rest x args (Action.TakesTurns turns)) result }
+{
+    start_loop(s, turns.slots, turns.schedule, turns.increment, turns.chunk)?;
+    Ok(Own::Went)
+}
+
 /// Goes past a call behind which the thread is outside of a region.
 fn leave_region(s: &mut ThreadState)
     requires within { index_of s.old + 1 < 2 ^ 64 }
@@ -299,6 +310,7 @@ fn perform_own(m: &Indexed, s: &mut ThreadState, register: Option<usize>, action
             s.stay(Phase::Loops(LoopPoint::Sleeps));
             Ok(Own::Went)
         }
+        Action::TakesTurns(turns) => take_turns(s, turns),
         Action::Jumps(block) => jump(m, s, block),
         Action::Returns(word) => Ok(return_to(m, s, word)),
         Action::Calls(_) | Action::Allocates(_) | Action::Forks(_, _) => unreachable!(),
