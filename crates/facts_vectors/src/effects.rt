@@ -107,7 +107,10 @@ fn told_of(alloc: Global, code: &str, index: usize) -> Result<Told, NotRead> {
 fn instructions_with_an_effect(rt: HostRuntime) -> Result<(), Fail> {
     for code in EFFECTS {
         let told = told_of(rt.alloc(), code, 0)?;
-        assert!(rt; told.effect && told.guard && !told.guard_in_function, "at {code}");
+        assert!(rt;
+            told.effect && told.guard && !told.guard_in_function,
+            "at {code}"
+        );
     }
     Ok(())
 }
@@ -118,7 +121,10 @@ fn instructions_without_one(rt: HostRuntime) -> Result<(), Fail> {
     for code in NO_EFFECTS {
         let code = format!(in alloc; "%s = alloca ptr\n{code}")?;
         let told = told_of(alloc, code.as_str(), 1)?;
-        assert!(rt; !told.effect && !told.guard && !told.guard_in_function, "at {code}");
+        assert!(rt;
+            !told.effect && !told.guard && !told.guard_in_function,
+            "at {code}"
+        );
     }
     Ok(())
 }
@@ -131,7 +137,10 @@ fn places(rt: HostRuntime) -> Result<(), Fail> {
     let calls = Calls::of(alloc, &m)?;
     let facts = Facts::of(alloc, &m, &calls)?;
     for ((function, block, index), guard) in PLACES {
-        assert!(rt; facts.needs_guard(function, block, index) == guard, "at {function} {block} {index}");
+        assert!(rt;
+            facts.needs_guard(function, block, index) == guard,
+            "at {function} {block} {index}"
+        );
     }
     // A region has an effect, and so has who calls a function that forks and stores.
     assert!(rt; facts.shared_effect(0) && facts.shared_effect(1));

@@ -14,7 +14,11 @@ type Told = (u8, u32);
 /// User code from line 8 on, before a fork, and items behind; what is told. Where one rule is told, it alone is broken. None breaks rule 6
 /// alone, since a fork on the region side is refused before; rules 1 and 4 have tests of their own.
 const KERNELS: [(&str, &str, &[Told]); 8] = [
-    ("call void @h(ptr %p)", "define void @h(ptr %q) {\nstore i32 7, ptr %q\nret void\n}\n", &[]),
+    (
+        "call void @h(ptr %p)",
+        "define void @h(ptr %q) {\nstore i32 7, ptr %q\nret void\n}\n",
+        &[],
+    ),
     ("%s = alloca ptr\nstore ptr %s, ptr %s", "", &[(2, 9)]),
     // In a function that the kernel calls.
     (
@@ -86,7 +90,11 @@ fn is_same(reason: &Reason, told: Told) -> bool {
 
 fn are_same(reasons: &List<Reason>, told: &[Told]) -> bool {
     reasons.len() == told.len()
-        && reasons.as_slice().iter().zip(told).all(|(reason, told)| is_same(reason, *told))
+        && reasons
+            .as_slice()
+            .iter()
+            .zip(told)
+            .all(|(reason, told)| is_same(reason, *told))
 }
 
 /// Whether the kernel at a place of the text is judged so; nothing is told of one that can run in SPMD mode.
@@ -111,16 +119,10 @@ fn rules(rt: HostRuntime) -> Result<(), Fail> {
 }
 
 #[test]
-fn a_kernel_without_a_region(rt: HostRuntime) -> Result<(), Fail> {
+fn without_a_fork_and_with_one(rt: HostRuntime) -> Result<(), Fail> {
     let alloc = rt.alloc();
     let text = module_text(alloc, "store i32 7, ptr %p", ADD, "")?;
     assert!(rt; is_judged(alloc, text.as_str(), 0, &[(1, 1)])?);
-    Ok(())
-}
-
-#[test]
-fn a_print_behind_a_fork(rt: HostRuntime) -> Result<(), Fail> {
-    let alloc = rt.alloc();
     let user = format!(in alloc; "{FORK}\n{PRINTING}")?;
     let text = module_text(alloc, user.as_str(), ADD, "")?;
     assert!(rt; is_judged(alloc, text.as_str(), 0, &[])?);

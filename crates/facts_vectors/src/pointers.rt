@@ -21,16 +21,36 @@ type Row = (&'static str, &'static str, usize, Points);
 
 /// Copies of a pointer into a stack.
 const COPIES: [Row; 8] = [
-    ("%s = alloca i32\n%x = getelementptr i8, ptr %s, i64 1", "", 0, Points::Stack),
+    (
+        "%s = alloca i32\n%x = getelementptr i8, ptr %s, i64 1",
+        "",
+        0,
+        Points::Stack,
+    ),
     (
         "%s = alloca i32\nbr i1 %m, label %one, label %two\none:\nbr label %two\ntwo:\n%x = phi ptr [ null, %one ], [ %s, %user ]",
         "",
         0,
         Points::Either,
     ),
-    ("%s = alloca i32\n%x = select i1 %m, ptr %s, ptr %p", "", 0, Points::Either),
-    ("%s = alloca i32\n%x = select i1 %m, ptr %p, ptr %s", "", 0, Points::Either),
-    ("%x = call ptr @h()", "define ptr @h() {\n%s = alloca i32\nret ptr %s\n}\n", 0, Points::Stack),
+    (
+        "%s = alloca i32\n%x = select i1 %m, ptr %s, ptr %p",
+        "",
+        0,
+        Points::Either,
+    ),
+    (
+        "%s = alloca i32\n%x = select i1 %m, ptr %p, ptr %s",
+        "",
+        0,
+        Points::Either,
+    ),
+    (
+        "%x = call ptr @h()",
+        "define ptr @h() {\n%s = alloca i32\nret ptr %s\n}\n",
+        0,
+        Points::Stack,
+    ),
     (
         "%s = alloca i32\ncall void @h(ptr %p, ptr %s)",
         "define void @h(ptr %q, ptr %x) {\nret void\n}\n",
@@ -54,19 +74,54 @@ const COPIES: [Row; 8] = [
 /// Where pointers come from.
 const ORIGINS: [Row; 8] = [
     ("%x = alloca i32", "", 0, Points::Stack),
-    ("%x = getelementptr i8, ptr %p, i64 1", "", 0, Points::Elsewhere),
+    (
+        "%x = getelementptr i8, ptr %p, i64 1",
+        "",
+        0,
+        Points::Elsewhere,
+    ),
     ("%x = load ptr, ptr %p", "", 0, Points::Elsewhere),
-    ("%s = alloca i32\n%n = ptrtoint ptr %s to i64\n%x = inttoptr i64 %n to ptr", "", 0, Points::Elsewhere),
-    ("%x = getelementptr i8, ptr null, i64 1", "", 0, Points::Elsewhere),
-    ("%x = getelementptr i8, ptr @e, i64 1", "@e = global i32 0\n", 0, Points::Elsewhere),
-    ("%x = call ptr @__kmpc_alloc_shared(i64 4)", "", 0, Points::Elsewhere),
+    (
+        "%s = alloca i32\n%n = ptrtoint ptr %s to i64\n%x = inttoptr i64 %n to ptr",
+        "",
+        0,
+        Points::Elsewhere,
+    ),
+    (
+        "%x = getelementptr i8, ptr null, i64 1",
+        "",
+        0,
+        Points::Elsewhere,
+    ),
+    (
+        "%x = getelementptr i8, ptr @e, i64 1",
+        "@e = global i32 0\n",
+        0,
+        Points::Elsewhere,
+    ),
+    (
+        "%x = call ptr @__kmpc_alloc_shared(i64 4)",
+        "",
+        0,
+        Points::Elsewhere,
+    ),
     // A parameter to which no call gives anything.
-    ("", "define void @h(ptr %x) {\nret void\n}\n", 3, Points::Nowhere),
+    (
+        "",
+        "define void @h(ptr %x) {\nret void\n}\n",
+        3,
+        Points::Nowhere,
+    ),
 ];
 
 /// What is stored in a function, and loaded in one that shares a side with it or doesn't.
 const MEMORY: [Row; 6] = [
-    ("%x = load ptr, ptr %p\n%s = alloca ptr\nstore ptr %s, ptr %s", "", 0, Points::Either),
+    (
+        "%x = load ptr, ptr %p\n%s = alloca ptr\nstore ptr %s, ptr %s",
+        "",
+        0,
+        Points::Either,
+    ),
     (
         "%s = alloca ptr\nstore ptr %s, ptr %s\ncall void @h(ptr %p)",
         "define void @h(ptr %q) {\n%x = load ptr, ptr %q\nret void\n}\n",
@@ -93,17 +148,34 @@ const MEMORY: [Row; 6] = [
         0,
         Points::Elsewhere,
     ),
-    ("%s = alloca ptr\nstore ptr %s, ptr %s\n%x = load i64, ptr %s", "", 0, Points::Nowhere),
+    (
+        "%s = alloca ptr\nstore ptr %s, ptr %s\n%x = load i64, ptr %s",
+        "",
+        0,
+        Points::Nowhere,
+    ),
 ];
 
 /// User code before a fork, and code of the region, whose register is asked.
 const REGIONS: [(&str, &str, Points); 5] = [
     ("", "%x = getelementptr i8, ptr %g, i64 0", Points::Stack),
     ("", "%x = getelementptr i8, ptr %b, i64 0", Points::Stack),
-    ("", "%x = getelementptr i8, ptr %p, i64 0", Points::Elsewhere),
-    ("", "store ptr %g, ptr %p\n%x = load ptr, ptr %p", Points::Either),
+    (
+        "",
+        "%x = getelementptr i8, ptr %p, i64 0",
+        Points::Elsewhere,
+    ),
+    (
+        "",
+        "store ptr %g, ptr %p\n%x = load ptr, ptr %p",
+        Points::Either,
+    ),
     // The main side and the region side are two.
-    ("%s = alloca ptr\nstore ptr %s, ptr %s", "%x = load ptr, ptr %p", Points::Elsewhere),
+    (
+        "%s = alloca ptr\nstore ptr %s, ptr %s",
+        "%x = load ptr, ptr %p",
+        Points::Elsewhere,
+    ),
 ];
 
 /// Where `%x` of the function at a place may point.

@@ -29,8 +29,11 @@ define void @e() {
 
 /// The places of functions on each side. The main side doesn't cross the fork, and the wrapper stands on no call path.
 const MAIN: [usize; 2] = [0, 3];
+
 const REGIONS: [usize; 2] = [1, 4];
+
 const BOTH: [usize; 1] = [5];
+
 const NEITHER: [usize; 3] = [2, 6, 7];
 
 /// Whether a call path leads from one function to another.
@@ -61,9 +64,17 @@ fn sides(rt: HostRuntime) -> Result<(), Fail> {
     let text = forking_text(alloc, USER, REGION, FUNCTIONS)?;
     let calls = Calls::of(alloc, &checked(alloc, text.as_str())?)?;
     assert!(rt; MAIN.iter().all(|at| matches!(calls.side(*at), Side::Main)));
-    assert!(rt; REGIONS.iter().all(|at| matches!(calls.side(*at), Side::Region)));
+    assert!(rt;
+        REGIONS
+            .iter()
+            .all(|at| matches!(calls.side(*at), Side::Region))
+    );
     assert!(rt; BOTH.iter().all(|at| matches!(calls.side(*at), Side::Both)));
-    assert!(rt; NEITHER.iter().all(|at| matches!(calls.side(*at), Side::Neither)));
+    assert!(rt;
+        NEITHER
+            .iter()
+            .all(|at| matches!(calls.side(*at), Side::Neither))
+    );
     Ok(())
 }
 

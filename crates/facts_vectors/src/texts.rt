@@ -105,14 +105,14 @@ impl From<AllocError> for NotRead {
 }
 
 /// What the text spells, checked.
-fn read(alloc: Global, text: &str) -> Result<Checked, Or<Refusal>> {
-    let module = read_module(alloc, text.as_bytes())?;
-    check(alloc, module)
+fn read(alloc: Global, text: &[u8]) -> Result<Checked, Or<Refusal>> {
+    let m = read_module(alloc, text)?;
+    check(alloc, m)
 }
 
 /// The module that the text spells.
 pub(crate) fn checked(alloc: Global, text: &str) -> Result<Checked, NotRead> {
-    match read(alloc, text) {
+    match read(alloc, text.as_bytes()) {
         Ok(module) => Ok(module),
         Err(Or::Refused(refusal)) => Err(NotRead::Refused(refusal.line)),
         Err(Or::Memory) => Err(NotRead::Memory),
