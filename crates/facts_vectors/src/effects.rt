@@ -13,14 +13,8 @@ const BEFORE: &str = "define void @h(ptr %q) {\n";
 const BEHIND: &str = "
   ret void
 }
-define void @prints() {
-  call void @ompx_print_i64(i64 1)
-  ret void
-}
-define void @loads(ptr %q) {
-  %v = load i32, ptr %q
-  ret void
-}
+define void @prints() { call void @ompx_print_i64(i64 1) ret void }
+define void @loads(ptr %q) { %v = load i32, ptr %q ret void }
 define void @forks(ptr %p) {
   %c = alloca [1 x ptr]
   store ptr %p, ptr %c

@@ -16,143 +16,95 @@ enum Points {
     Nowhere,
 }
 
-/// User code, items behind, and the place of the function whose register is asked.
-type Row = (&'static str, &'static str, usize, Points);
+/// User code, and where its register may point.
+type InKernel = (&'static str, Points);
 
-/// Copies of a pointer into a stack.
-const COPIES: [Row; 8] = [
+/// Where pointers come from.
+const ORIGINS: [InKernel; 7] = [
+    ("%x = alloca i32", Points::Stack),
+    ("%x = getelementptr i8, ptr %p, i64 1", Points::Elsewhere),
+    ("%x = load ptr, ptr %p", Points::Elsewhere),
+    ("%x = inttoptr i64 -1 to ptr", Points::Elsewhere),
+    ("%x = getelementptr i8, ptr null, i64 1", Points::Elsewhere),
+    ("%x = getelementptr i8, ptr @e, i64 1", Points::Elsewhere),
     (
-        "%s = alloca i32\n%x = getelementptr i8, ptr %s, i64 1",
-        "",
-        0,
-        Points::Stack,
-    ),
-    (
-        "%s = alloca i32\nbr i1 %m, label %one, label %two\none:\nbr label %two\ntwo:\n%x = phi ptr [ null, %one ], [ %s, %user ]",
-        "",
-        0,
-        Points::Either,
-    ),
-    (
-        "%s = alloca i32\n%x = select i1 %m, ptr %s, ptr %p",
-        "",
-        0,
-        Points::Either,
-    ),
-    (
-        "%s = alloca i32\n%x = select i1 %m, ptr %p, ptr %s",
-        "",
-        0,
-        Points::Either,
-    ),
-    (
-        "%x = call ptr @h()",
-        "define ptr @h() {\n%s = alloca i32\nret ptr %s\n}\n",
-        0,
-        Points::Stack,
-    ),
-    (
-        "%s = alloca i32\ncall void @h(ptr %p, ptr %s)",
-        "define void @h(ptr %q, ptr %x) {\nret void\n}\n",
-        3,
-        Points::Stack,
-    ),
-    (
-        "%s = alloca i32\ncall void @h(ptr %p, ptr %s)",
-        "define void @h(ptr %x, ptr %q) {\nret void\n}\n",
-        3,
+        "%x = call ptr @__kmpc_alloc_shared(i64 4)",
         Points::Elsewhere,
-    ),
-    (
-        "%s = alloca i32\n%x = call ptr @h(ptr %s)",
-        "define ptr @h(ptr %q) {\nret ptr %q\n}\n",
-        0,
-        Points::Stack,
     ),
 ];
 
-/// Where pointers come from.
-const ORIGINS: [Row; 8] = [
-    ("%x = alloca i32", "", 0, Points::Stack),
+/// Hops from a pointer into the stack, and what is none.
+const HOPS: [InKernel; 8] = [
+    ("%x = getelementptr i8, ptr %s, i64 1", Points::Stack),
+    ("%x = select i1 %m, ptr %s, ptr %p", Points::Either),
+    ("%x = select i1 %m, ptr %p, ptr %s", Points::Either),
     (
-        "%x = getelementptr i8, ptr %p, i64 1",
-        "",
-        0,
-        Points::Elsewhere,
-    ),
-    ("%x = load ptr, ptr %p", "", 0, Points::Elsewhere),
-    (
-        "%s = alloca i32\n%n = ptrtoint ptr %s to i64\n%x = inttoptr i64 %n to ptr",
-        "",
-        0,
-        Points::Elsewhere,
+        "br i1 %m, label %one, label %two\none:\nbr label %two\ntwo:\n%x = phi ptr [ null, %one ], [ %s, %user ]",
+        Points::Either,
     ),
     (
-        "%x = getelementptr i8, ptr null, i64 1",
-        "",
-        0,
-        Points::Elsewhere,
+        "%x = load ptr, ptr %p\nstore ptr %s, ptr %p",
+        Points::Either,
     ),
     (
-        "%x = getelementptr i8, ptr @e, i64 1",
-        "@e = global i32 0\n",
-        0,
+        "%x = load i64, ptr %p\nstore ptr %s, ptr %p",
+        Points::Nowhere,
+    ),
+    (
+        "%n = ptrtoint ptr %s to i64\nstore i64 %n, ptr %p\n%x = load ptr, ptr %p",
         Points::Elsewhere,
     ),
     (
-        "%x = call ptr @__kmpc_alloc_shared(i64 4)",
-        "",
-        0,
+        "%n = ptrtoint ptr %s to i64\n%x = inttoptr i64 %n to ptr",
         Points::Elsewhere,
     ),
-    // A parameter to which no call gives anything.
+];
+
+/// User code, a function behind, and the place of the function whose register is asked: hops by calls, and by what functions that share a
+/// side store and load.
+const CALLS: [(&str, &str, usize, Points); 7] = [
+    (
+        "%x = call ptr @h()",
+        "define ptr @h() {\n%s = alloca i32\nret ptr %s }",
+        0,
+        Points::Stack,
+    ),
+    (
+        "%x = call ptr @h(ptr %s)",
+        "define ptr @h(ptr %q) { ret ptr %q }",
+        0,
+        Points::Stack,
+    ),
+    (
+        "call void @h(ptr %p, ptr %s)",
+        "define void @h(ptr %q, ptr %x) { ret void }",
+        3,
+        Points::Stack,
+    ),
     (
         "",
-        "define void @h(ptr %x) {\nret void\n}\n",
+        "define void @h(ptr %x) { ret void }",
         3,
         Points::Nowhere,
     ),
-];
-
-/// What is stored in a function, and loaded in one that shares a side with it or doesn't.
-const MEMORY: [Row; 6] = [
     (
-        "%x = load ptr, ptr %p\n%s = alloca ptr\nstore ptr %s, ptr %s",
-        "",
-        0,
-        Points::Either,
-    ),
-    (
-        "%s = alloca ptr\nstore ptr %s, ptr %s\ncall void @h(ptr %p)",
-        "define void @h(ptr %q) {\n%x = load ptr, ptr %q\nret void\n}\n",
+        "store ptr %s, ptr %p\ncall void @h(ptr %p)",
+        "define void @h(ptr %q) {\n%x = load ptr, ptr %q\nret void }",
         3,
         Points::Either,
     ),
     (
         "%x = load ptr, ptr %p\ncall void @h(ptr %p)",
-        "define void @h(ptr %q) {\n%s = alloca i32\nstore ptr %s, ptr %q\nret void\n}\n",
+        "define void @h(ptr %q) {\n%l = alloca i32\nstore ptr %l, ptr %q\nret void }",
         0,
         Points::Either,
     ),
     // No kernel calls the function.
     (
-        "%s = alloca ptr\nstore ptr %s, ptr %s",
-        "define void @h(ptr %q) {\n%x = load ptr, ptr %q\nret void\n}\n",
+        "store ptr %s, ptr %p",
+        "define void @h(ptr %q) {\n%x = load ptr, ptr %q\nret void }",
         3,
         Points::Elsewhere,
-    ),
-    // Integers are stored, and loaded.
-    (
-        "%s = alloca i64\n%n = ptrtoint ptr %s to i64\nstore i64 %n, ptr %p\n%x = load ptr, ptr %p",
-        "",
-        0,
-        Points::Elsewhere,
-    ),
-    (
-        "%s = alloca ptr\nstore ptr %s, ptr %s\n%x = load i64, ptr %s",
-        "",
-        0,
-        Points::Nowhere,
     ),
 ];
 
@@ -192,33 +144,40 @@ fn pointed(alloc: Global, text: &str, at: usize) -> Result<Points, NotRead> {
     }
 }
 
-/// Whether `%x` points there.
-fn is_so(alloc: Global, row: Row) -> Result<bool, NotRead> {
-    let (user, items, at, points) = row;
-    let text = module_text(alloc, user, ADD, items)?;
+/// Whether `%x` of the function at a place may point there; `%s` of the kernel points into its stack.
+fn is_so(
+    alloc: Global,
+    user: &str,
+    items: &str,
+    at: usize,
+    points: Points,
+) -> Result<bool, NotRead> {
+    let user = format!(in alloc; "%s = alloca i32\n{user}")?;
+    let items = format!(in alloc; "{items}\n@e = global i32 0\n")?;
+    let text = module_text(alloc, user.as_str(), ADD, items.as_str())?;
     Ok(pointed(alloc, text.as_str(), at)? == points)
 }
 
 #[test]
-fn copies(rt: HostRuntime) -> Result<(), Fail> {
-    for row in COPIES {
-        assert!(rt; is_so(rt.alloc(), row)?, "at {}", row.0);
-    }
-    Ok(())
-}
-
-#[test]
 fn origins(rt: HostRuntime) -> Result<(), Fail> {
-    for row in ORIGINS {
-        assert!(rt; is_so(rt.alloc(), row)?, "at {}", row.0);
+    for (user, points) in ORIGINS {
+        assert!(rt; is_so(rt.alloc(), user, "", 0, points)?, "at {user}");
     }
     Ok(())
 }
 
 #[test]
-fn memory(rt: HostRuntime) -> Result<(), Fail> {
-    for row in MEMORY {
-        assert!(rt; is_so(rt.alloc(), row)?, "at {}", row.0);
+fn hops(rt: HostRuntime) -> Result<(), Fail> {
+    for (user, points) in HOPS {
+        assert!(rt; is_so(rt.alloc(), user, "", 0, points)?, "at {user}");
+    }
+    Ok(())
+}
+
+#[test]
+fn calls(rt: HostRuntime) -> Result<(), Fail> {
+    for (user, items, at, points) in CALLS {
+        assert!(rt; is_so(rt.alloc(), user, items, at, points)?, "at {user}");
     }
     Ok(())
 }

@@ -9,22 +9,11 @@ const USER: &str = "call void @a()\ncall void @c()";
 const REGION: &str = "call void @b()\ncall void @c()";
 
 /// Places 3 to 7.
-const FUNCTIONS: &str = "define void @a() {
-  ret void
-}
-define void @b() {
-  ret void
-}
-define void @c() {
-  ret void
-}
-define void @d() {
-  call void @e()
-  ret void
-}
-define void @e() {
-  ret void
-}
+const FUNCTIONS: &str = "define void @a() { ret void }
+define void @b() { ret void }
+define void @c() { ret void }
+define void @d() { call void @e() ret void }
+define void @e() { ret void }
 ";
 
 /// The places of functions on each side. The main side doesn't cross the fork, and the wrapper stands on no call path.
