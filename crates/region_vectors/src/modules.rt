@@ -29,7 +29,8 @@ exit:
 ";
 
 /// A fork of the region.
-pub(crate) const FORK: &str = "  call void @__kmpc_parallel_51(ptr null, i32 0, i32 1, i32 -1, i32 -1, ptr @r, ptr @w, ptr %c, i64 1)
+pub(crate) const FORK: &str =
+    "  call void @__kmpc_parallel_51(ptr null, i32 0, i32 1, i32 -1, i32 -1, ptr @r, ptr @w, ptr %c, i64 1)
 ";
 
 /// What hands the kernel's pointer to the region, before its fork.
@@ -62,13 +63,16 @@ declare void @__kmpc_barrier(ptr, i32)
 declare void @ompx_print_i64(i64)
 ";
 
-/// The lines of a module in pieces: those of its kernel and of its region, and the functions behind the wrapper.
+/// A module, as the lines of its kernel and of its region and the functions behind the wrapper; a launch, and the report that is wanted.
 #[derive(Clone, Copy)]
-pub(crate) struct Pieces {
+pub(crate) struct Row {
+    pub(crate) name: &'static str,
     pub(crate) user: &'static [&'static str],
     pub(crate) capture: Capture,
     pub(crate) region: &'static [&'static str],
     pub(crate) behind: &'static [&'static str],
+    pub(crate) launch: &'static str,
+    pub(crate) report: &'static str,
 }
 
 /// Adds pieces to a text.
@@ -99,15 +103,15 @@ fn wrapper_end(capture: Capture) -> &'static str {
     }
 }
 
-/// The text of a module: the kernel `@k`, the region `@r`, its wrapper `@w`, what stands behind them, and declarations.
-pub(crate) fn module_text(alloc: Global, pieces: &Pieces) -> Result<Vec<u8>, AllocError> {
+/// The text of a row's module: the kernel `@k`, the region `@r`, its wrapper `@w`, what stands behind them, and declarations.
+pub(crate) fn module_text(alloc: Global, row: &Row) -> Result<Vec<u8>, AllocError> {
     let mut text = Vec::new(alloc);
     add(&mut text, &["define void @k", KERNEL])?;
-    add(&mut text, pieces.user)?;
-    add(&mut text, &[KERNEL_END, region_head(pieces.capture)])?;
-    add(&mut text, pieces.region)?;
-    add(&mut text, &[WRAPPER, wrapper_end(pieces.capture)])?;
-    add(&mut text, pieces.behind)?;
+    add(&mut text, row.user)?;
+    add(&mut text, &[KERNEL_END, region_head(row.capture)])?;
+    add(&mut text, row.region)?;
+    add(&mut text, &[WRAPPER, wrapper_end(row.capture)])?;
+    add(&mut text, row.behind)?;
     add(&mut text, &[DECLARATIONS])?;
     Ok(text)
 }

@@ -4,8 +4,8 @@ ghost use Rattle.interp_local.specs.Operands.{AreFew};
 ghost use Rattle.interp_local.specs.Steps.{AreServed};
 ghost use Rattle.interp.specs.Teams.{IsTeam};
 
-use crate::modules::module_text;
-use crate::rows::{ROWS, Row};
+use crate::modules::{Row, module_text};
+use crate::rows::ROWS;
 use checked_modules::Checked;
 use interp::{Team, step};
 use ir_check::check;
@@ -130,12 +130,8 @@ fn report_of_launch(
 }
 
 /// The report of a row; None where its module or its launch is refused.
-fn report_of_row(
-    alloc: Global,
-    row: &Row,
-    order: Order,
-) -> Result<Option<List<u8>>, OutOfMemory> {
-    let text = module_text(alloc, &row.pieces)?;
+fn report_of_row(alloc: Global, row: &Row, order: Order) -> Result<Option<List<u8>>, OutOfMemory> {
+    let text = module_text(alloc, row)?;
     match module_of(alloc, text.as_slice()) {
         Ok(m) => report_of_launch(alloc, &m, row.launch, order),
         Err(Or::Refused(_)) => Ok(None),
