@@ -1,3 +1,3 @@
 pub mod Counts
-pub mod Outputs
+pub mod Accepted
 pub mod Crosses

@@ -26,7 +26,7 @@ use Rattle.shapes.specs.Facts.{rule, insts_of, calls, is_call_of, operands_of, o
 use Rattle.shapes.specs.Insts.{block_insts}
 use Rattle.shapes.specs.KernelShape.{is_kernel, spmd_call, spmd_global, exec_mode, spmd_inputs, deinit_outside, of_modes, shaped}
 use Rattle.accepted_laws.proofs.Nothing.{front_none, back_none, each_none}
-use Rattle.checked_modules.specs.OutputKernels.{is_output_init, of_generic_by, of_function_by, output_kernel_refusals}
+use Rattle.out_modules.specs.OutputKernels.{is_output_init, of_generic_by, of_function_by, output_kernel_refusals}
 use Rattle.mem_model.specs.Entries.{entry_of}
 use Rattle.mem_model.specs.Next.{Callee, CallsEntry, CallsFunction, CallsOther, entry_or, with_body, defined_as, defined_at, callee_of}
 use Rattle.thread_state.specs.Seen.{IsSpmdCall, IsSpmdKind}

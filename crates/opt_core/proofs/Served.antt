@@ -31,8 +31,8 @@ use Rattle.shapes.specs.Facts.{is_constant}
 use Rattle.thread_state.specs.Seen.{IsSpmdCall, IsSpmdKind}
 use Rattle.opt_core.proofs.Modes.{output_generic}
 use Rattle.mem_model.specs.Next.{Callee, CallsEntry, CallsFunction, CallsOther, entry_of, entry_or, with_body, defined_as, defined_at, callee_of}
-use Rattle.checked_modules.specs.Checked.{IsOutput}
-use Rattle.checked_modules.proofs.Outputs.{inst_off_at, output_sized}
+use Rattle.out_modules.specs.Outputs.{IsOutput}
+use Rattle.out_modules.proofs.Outputs.{inst_off_at, output_sized}
 use Rattle.interp_local.specs.Steps.{IsRun, IsServed, AreServed}
 use Rattle.interp_local.proofs.EntryNames.{is_named}
 

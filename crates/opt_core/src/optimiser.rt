@@ -6,8 +6,9 @@ ghost use Rattle.opt_core.specs.Optimised.{IsOptimisedModule};
 
 use crate::machine_off::machine_off;
 use crate::remarks::{init_lines, modes_at, remarks_at};
-use checked_modules::{Checked, OutModule};
+use checked_modules::Checked;
 use ir_core::{List, Mode, OutOfMemory, Remark};
+use out_modules::OutModule;
 use std::alloc::Global;
 
 /// The optimised module, how each of its kernels runs in the order of the text, and the remarks in their order.

@@ -14,10 +14,11 @@ ghost use Rattle.opt_core.specs.ReplayStages.{IsReported};
 
 use crate::optimiser::optimise;
 use crate::reply::{Reply, note_reply};
-use checked_modules::{Checked, OutModule};
+use checked_modules::Checked;
 use interp::Team;
 use ir_core::{List, Module, Or, OutOfMemory};
 use mem_model::Launch;
+use out_modules::OutModule;
 use replay::{end_status, launch_note, replay, report_of, schedule_note};
 use run_text::{LaunchFault, RunMode, ScheduleFault, print_report, read_schedule};
 use std::alloc::Global;

@@ -29,7 +29,7 @@ use Rattle.shapes.specs.Facts.{insts_of, calls, is_call_of, operands_of, operand
 use Rattle.shapes.specs.KernelShape.{is_generic_init, kernel_refusals}
 use Rattle.accepted_laws.proofs.Nothing.{not_both, front_none, back_none, nothing_at, holds, something, both_hold}
 use Rattle.accepted_laws.proofs.Clean.{Clean, clean, clean_function}
-use Rattle.checked_modules.specs.OutputKernels.{is_switched_off_init, kernel_refusals_by}
+use Rattle.out_modules.specs.OutputKernels.{is_switched_off_init, kernel_refusals_by}
 use Rattle.output_laws.proofs.InitCalls.{found, first_found, init_params, init_declared}
 use Rattle.output_laws.proofs.NumberFlags.{is_flagged, are_flagged, module_flagged}
 use Rattle.output_laws.proofs.OffKernels.{kernels_off}

@@ -22,7 +22,7 @@ use Rattle.shapes.specs.Insts.{block_insts}
 use Rattle.shapes.specs.Facts.{rule, insts_of, insts_in, first_insts, is_call_of, is_constant}
 use Rattle.shapes.specs.Uses.{names_called, names_forked, fork_names}
 use Rattle.shapes.specs.KernelShape.{shaped, is_kernel, exec_mode, holds_number, spmd_call, spmd_global, spmd_inputs, has_heading, of_exec_mode, Ways, kernel_ways, branches_to, of_exit_block, of_exit, is_exit_name, returns, is_deinit, returns_next, of_ends, of_block, of_modes, deinit_outside}
-use Rattle.checked_modules.specs.OutputKernels.{of_code_by, of_function_by, kernel_refusals_by}
+use Rattle.out_modules.specs.OutputKernels.{of_code_by, of_function_by, kernel_refusals_by}
 use Rattle.output_laws.proofs.InitCalls.{same_targets}
 use Rattle.output_laws.proofs.NumberFlags.{are_flagged}
 use Rattle.output_laws.proofs.OffNames.{flat_where, names_used_off}

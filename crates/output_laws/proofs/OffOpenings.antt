@@ -16,7 +16,7 @@ use Rattle.ir_core.specs.Places.{Name}
 use Rattle.shapes.specs.Facts.{first_insts, is_call_of, gives}
 use Rattle.shapes.specs.KernelShape.{shaped, Opening, behind_inst, opening, makes_block, is_alloca_in, goes_into_alloca, makes_own, is_own_pointer, may_open, of_opener, compares, is_test, Ways, ways_by, ways_on, ways, two_ways, of_branch, of_behind, ways_behind, ways_of, kernel_ways}
 use Rattle.accepted_laws.proofs.Nothing.{both_hold}
-use Rattle.checked_modules.specs.OutputKernels.{of_opening_by}
+use Rattle.out_modules.specs.OutputKernels.{of_opening_by}
 use Rattle.output_laws.proofs.SwitchedOff.{flat_same, is_call_off}
 
 -- ---- where the init call stands

@@ -16,7 +16,7 @@ use Rattle.ir_core.specs.MachineOff.{operands_off, kind_off, inst_off, machine_o
 use Rattle.shapes.specs.Facts.{insts_of, first_insts, calls, is_call_of, operands_of, operand_of, is_constant}
 use Rattle.shapes.specs.KernelShape.{shaped, is_kernel, spmd_inputs, has_heading, exec_mode, of_exec_mode, Opening, opening, of_opener, is_generic_init, of_behind, of_opening, kernel_ways, of_exit, of_block, of_modes, deinit_outside, of_function, kernel_refusals}
 use Rattle.accepted_laws.proofs.Nothing.{front_none, back_none}
-use Rattle.checked_modules.specs.OutputKernels.{is_switched_off_init, is_output_init, of_opening_by, of_code_by, of_generic_by, of_function_by, kernel_refusals_by, output_kernel_refusals}
+use Rattle.out_modules.specs.OutputKernels.{is_switched_off_init, is_output_init, of_opening_by, of_code_by, of_generic_by, of_function_by, kernel_refusals_by, output_kernel_refusals}
 use Rattle.output_laws.proofs.NumberFlags.{is_flagged, module_flagged, shape_holds}
 use Rattle.output_laws.proofs.OffKernels.{kernels_off}
 

@@ -8,8 +8,9 @@ use Rattle.shapes.specs.Clauses.{clause_refusals}
 use Rattle.shapes.specs.Limits.{limit_refusals}
 use Rattle.accepted_laws.proofs.Nothing.{front_none, back_none}
 use Rattle.formed_parts.proofs.Off.{off_is_formed}
-use Rattle.checked_modules.specs.Checked.{HasNoRefusal, IsOutput}
-use Rattle.checked_modules.proofs.Outputs.{no_refusals}
+use Rattle.checked_modules.specs.Checked.{HasNoRefusal}
+use Rattle.out_modules.specs.Outputs.{IsOutput}
+use Rattle.checked_modules.proofs.Accepted.{no_refusals}
 use Rattle.output_laws.proofs.InitCalls.{off_keeps_names}
 use Rattle.output_laws.proofs.OffPaths.{off_keeps_nested}
 use Rattle.output_laws.proofs.OffRules.{off_keeps_clauses, off_keeps_limits}

@@ -17,8 +17,9 @@ ghost use Rattle.shapes.specs.Limits.{limit_refusals};
 ghost use Rattle.shapes.specs.Wrappers.{wrapper_refusals};
 ghost use Rattle.formed_parts.specs.Edits.{module_edited};
 ghost use Rattle.output_laws.specs.Names.{KeepsNames, KeepsRules};
-ghost use Rattle.checked_modules.specs.Checked.{HasNoRefusal, IsOutput};
-ghost use Rattle.checked_modules.specs.OutputKernels.{is_switched_off_init, kernel_refusals_by, output_kernel_refusals};
+ghost use Rattle.checked_modules.specs.Checked.{HasNoRefusal};
+ghost use Rattle.out_modules.specs.Outputs.{IsOutput};
+ghost use Rattle.out_modules.specs.OutputKernels.{is_switched_off_init, kernel_refusals_by, output_kernel_refusals};
 
 /// Nothing is refused of names and types where each instruction is replaced by one that gives the same names and keeps the rules of its kind.
 pub fn edits_keep_names()

@@ -7,9 +7,3 @@ crosses-requires-send-T c κs = search (checked_crosses, sendable)
 
 pub crosses-requires-sync-T : goal.crosses-requires-sync-T
 crosses-requires-sync-T c κs = search (checked_crosses, sendable)
-
-pub crosses-requires-2-send-T : goal.crosses-requires-2-send-T
-crosses-requires-2-send-T c κs = search (checked_crosses, sendable)
-
-pub crosses-requires-2-sync-T : goal.crosses-requires-2-sync-T
-crosses-requires-2-sync-T c κs = search (checked_crosses, sendable)

@@ -1,6 +1,6 @@
 use Rattle.std.proofs.Common.{sym, subst, ap, ◌∙◌}
 use Rattle.ir_core.specs.MachineOff.{machine_off}
-use Rattle.checked_modules.specs.Checked.{IsOutput}
+use Rattle.out_modules.specs.Outputs.{IsOutput}
 use Rattle.refine_laws.specs.Refines.{RefinesSource}
 use Rattle.refine_laws.proofs.Refining.{machine_off_refines}
 use Rattle.output_laws.proofs.OutputModules.{off_is_output}

@@ -1,5 +1,5 @@
 -- What holds of every module that the optimiser may give.
-use Rattle.std.proofs.Common.{◌≡◌, ℕ, ◌≤◌, List, [], ◌∷◌, ◌++◌, length, Option, Some, None, option_map, inl, refl, ap, ◌∙◌, slice_get}
+use Rattle.std.proofs.Common.{◌≡◌, ℕ, ◌≤◌, length, Option, Some, None, option_map, refl, ap, ◌∙◌, slice_get}
 use Rattle.std.proofs.lemmas.Option.{slice_get-map}
 use Rattle.ir_core.specs.declared.types.Ty.{Ty}
 use Rattle.ir_core.specs.declared.instructions.Inst.{Inst}
@@ -10,28 +10,12 @@ use Rattle.ir_core.specs.Layout.{WellFormed}
 use Rattle.ir_core.specs.MachineOff.{inst_off, block_off, function_off, machine_off}
 use Rattle.ir_core.specs.Places.{Place, block_in, inst_in, inst_at}
 use Rattle.shapes.specs.Facts.{insts_in}
-use Rattle.shapes.specs.KernelShape.{kernel_refusals}
-use Rattle.shapes.specs.Wrappers.{wrapper_refusals}
-use Rattle.shapes.specs.Clauses.{clause_refusals}
-use Rattle.shapes.specs.Limits.{limit_refusals, kind_types, instruction_limit}
-use Rattle.shapes.specs.Refusals.{shape_refusals}
-use Rattle.accepted_laws.proofs.Nothing.{back_none}
+use Rattle.shapes.specs.Limits.{kind_types, instruction_limit}
 use Rattle.accepted_laws.proofs.Few.{instructions_are_few}
 use Rattle.accepted_laws.proofs.Sizes.{types_have_sizes}
-use Rattle.checked_modules.specs.Checked.{HasNoShapeRefusal, HasNoRefusal, IsOutput}
+use Rattle.out_modules.specs.Outputs.{IsOutput}
 
 -- ---- few instructions
-
--- a list that nothing is in
-nothing_in : {A : Type 0} (xs : List A) → ((place : ℕ) (x : A) → slice_get xs place ≡ Some x → ⊥) → xs ≡ []
-nothing_in [] h = refl
-nothing_in (x ∷ xs) h = absurd (h 0 x refl)
-
-pub no_refusals : (m : Module) → HasNoShapeRefusal m → shape_refusals m ≡ []
-no_refusals m h = nothing_in (shape_refusals m) (λ place r is. h r (inl (place, is)))
-
-pub accepted_few : (m : Module) → HasNoRefusal m → length (insts_in m) ≤ instruction_limit
-accepted_few m h = instructions_are_few m (back_none (kernel_refusals m ++ wrapper_refusals m ++ clause_refusals m) (limit_refusals m) (no_refusals m h.shapes))
 
 pub output_few : (m : Module) → IsOutput m → length (insts_in m) ≤ instruction_limit
 output_few m h = instructions_are_few m h.limits
